@@ -1,0 +1,177 @@
+-- Laws of the tests over lists: what a passed test says, and how to pass one.
+use mathlib.Core.Path.{_≡_, refl, sym, ap, subst}
+use mathlib.Core.Logic.{_⊎_, inl, inr, _≢_}
+use mathlib.Core.Bool.{Bool, true, false, not, _&&_, _||_}
+use mathlib.Core.List.{List, [], _∷_, map, List·Memᴰ·head, List·Memᴰ·tail, Memᴰ·cast, List·Memᴰ·cases-cons}
+use Prim.Native.Nat.{ℕ, zero, suc, _<_}
+use native.Mathlib.Omega.{arith}
+use native.Mathlib.Nat.{not-suc-le-zero}
+use lib.Dec.{T, eqb, eqb→eq, eqb-refl, not-T, T-not}
+use Rattle.base.specs.Tests.{_∈_, pick, any, all, filter, below}
+
+-- ---- tests joined
+pub and-in : (a b : Bool) → T a → T b → T (a && b)
+and-in true b h k = k
+and-in false b h k = h
+
+pub and-l : (a b : Bool) → T (a && b) → T a
+and-l true b h = tt
+and-l false b h = h
+
+pub and-r : (a b : Bool) → T (a && b) → T b
+and-r true b h = h
+and-r false b h = absurd h
+
+pub or-l : (a b : Bool) → T a → T (a || b)
+or-l true b h = tt
+or-l false b h = absurd h
+
+pub or-r : (a b : Bool) → T b → T (a || b)
+or-r true b h = tt
+or-r false b h = h
+
+pub or-out : (a b : Bool) → T (a || b) → T a ⊎ T b
+or-out true b h = inl tt
+or-out false b h = inr h
+
+pub dec-T : (b : Bool) → T b ⊎ T (not b)
+dec-T true = inl tt
+dec-T false = inr tt
+
+-- `a → b` as a test
+pub imp-in : (a b : Bool) → (T a → T b) → T (not a || b)
+imp-in true b h = h tt
+imp-in false b h = tt
+
+pub imp-out : (a b : Bool) → T (not a || b) → T a → T b
+imp-out true b h k = h
+imp-out false b h k = absurd k
+
+-- two tests are one where each passes if the other does
+pub same-test : (a b : Bool) → (T a → T b) → (T b → T a) → a ≡ b
+same-test true true f g = refl
+same-test true false f g = absurd (f tt)
+same-test false true f g = absurd (g tt)
+same-test false false f g = refl
+
+pub not-true : (b : Bool) → T (not b) → b ≡ false
+not-true true h = absurd h
+not-true false h = refl
+
+pub eq→eqb : {m n : ℕ} → m ≡ n → T (eqb m n)
+eq→eqb {m} {n} e = subst (λ (k : ℕ). T (eqb m k)) e (eqb-refl m)
+
+pub neqb→ne : (m n : ℕ) → T (not (eqb m n)) → m ≢ n
+neqb→ne m n h e = T-not (eqb m n) h (eq→eqb e)
+
+pub ne→neqb : (m n : ℕ) → m ≢ n → T (not (eqb m n))
+ne→neqb m n h = not-T (eqb m n) (λ t. h (eqb→eq m n t))
+
+-- `if a then b`, with b read only where a holds
+pub and-cong : (a b c : Bool) → (T a → b ≡ c) → (a && b) ≡ (a && c)
+and-cong true b c h = h tt
+and-cong false b c h = refl
+
+module _ {A : Type 0} where
+  pub any-in : (f : A → Bool) {x : A} {l : List A} → x ∈ l → T (f x) → T (any f l)
+  unfolding any
+  any-in f (List·Memᴰ·head {x = y} {xs = ys} e) h = or-l (f y) (any f ys) (subst (λ (z : A). T (f z)) e h)
+  any-in f (List·Memᴰ·tail {x = y} {xs = ys} m) h = or-r (f y) (any f ys) (any-in f m h)
+
+  pub any-out : (f : A → Bool) (l : List A) → T (any f l) → (x : A) × (x ∈ l) × T (f x)
+  unfolding any
+  any-out f [] h = absurd h
+  any-out f (x ∷ l) h = step (λ (k : T (any f l)). any-out f l k) (or-out (f x) (any f l) h)
+    where
+      step : (T (any f l) → (y : A) × (y ∈ l) × T (f y)) → T (f x) ⊎ T (any f l) → (y : A) × (y ∈ x ∷ l) × T (f y)
+      step rest (inl k) = (x, List·Memᴰ·head refl, k)
+      step rest (inr k) = let (y, m, q) = rest k in (y, List·Memᴰ·tail m, q)
+
+  pub all-in : (f : A → Bool) (l : List A) → ((x : A) → x ∈ l → T (f x)) → T (all f l)
+  unfolding all
+  all-in f [] h = tt
+  all-in f (x ∷ l) h = and-in (f x) (all f l) (h x (List·Memᴰ·head refl)) (all-in f l (λ y m. h y (List·Memᴰ·tail m)))
+
+  pub all-out : (f : A → Bool) {x : A} {l : List A} → x ∈ l → T (all f l) → T (f x)
+  unfolding all
+  all-out f (List·Memᴰ·head {x = y} {xs = ys} e) h = subst (λ (z : A). T (f z)) (sym e) (and-l (f y) (all f ys) h)
+  all-out f (List·Memᴰ·tail {x = y} {xs = ys} m) h = all-out f m (and-r (f y) (all f ys) h)
+
+  pub any-cong : (f g : A → Bool) (l : List A) → ((x : A) → x ∈ l → f x ≡ g x) → any f l ≡ any g l
+  unfolding any
+  any-cong f g [] h = refl
+  any-cong f g (x ∷ l) h = λ i. h x (List·Memᴰ·head refl) i || any-cong f g l (λ y m. h y (List·Memᴰ·tail m)) i
+
+  pub all-cong : (f g : A → Bool) (l : List A) → ((x : A) → x ∈ l → f x ≡ g x) → all f l ≡ all g l
+  unfolding all
+  all-cong f g [] h = refl
+  all-cong f g (x ∷ l) h = λ i. h x (List·Memᴰ·head refl) i && all-cong f g l (λ y m. h y (List·Memᴰ·tail m)) i
+
+  pub filter-cong : (f g : A → Bool) (l : List A) → ((x : A) → x ∈ l → f x ≡ g x) → filter f l ≡ filter g l
+  unfolding filter
+  filter-cong f g [] h = refl
+  filter-cong f g (x ∷ l) h = λ i. pick (h x (List·Memᴰ·head refl) i) (x ∷ filter-cong f g l (λ y m. h y (List·Memᴰ·tail m)) i) (filter-cong f g l (λ y m. h y (List·Memᴰ·tail m)) i)
+
+  pick-head : (b : Bool) (x : A) (l : List A) → T b → x ∈ pick b (x ∷ l) l
+  pick-head true x l h = List·Memᴰ·head refl
+  pick-head false x l h = absurd h
+
+  pick-tail : (b : Bool) (x y : A) (l : List A) → y ∈ l → y ∈ pick b (x ∷ l) l
+  pick-tail true x y l m = List·Memᴰ·tail m
+  pick-tail false x y l m = m
+
+  pick-out : (b : Bool) (x y : A) (l : List A) → y ∈ pick b (x ∷ l) l → (T b × (y ≡ x)) ⊎ (y ∈ l)
+  pick-out true x y l (List·Memᴰ·head e) = inl (tt, e)
+  pick-out true x y l (List·Memᴰ·tail m) = inr m
+  pick-out false x y l m = inr m
+
+  pub filter-in : (f : A → Bool) {x : A} {l : List A} → x ∈ l → T (f x) → x ∈ filter f l
+  unfolding filter
+  filter-in f (List·Memᴰ·head {x = y} {xs = ys} e) h = Memᴰ·cast e (pick-head (f y) y (filter f ys) (subst (λ (z : A). T (f z)) e h))
+  filter-in f {x} (List·Memᴰ·tail {x = y} {xs = ys} m) h = pick-tail (f y) y x (filter f ys) (filter-in f m h)
+
+  pub filter-out : (f : A → Bool) {x : A} (l : List A) → x ∈ filter f l → (x ∈ l) × T (f x)
+  unfolding filter
+  filter-out f [] m = elim m [ ]
+  filter-out f {x} (y ∷ l) m = step (λ (k : x ∈ filter f l). filter-out f l k) (pick-out (f y) y x (filter f l) m)
+    where
+      step : (x ∈ filter f l → (x ∈ l) × T (f x)) → (T (f y) × (x ≡ y)) ⊎ (x ∈ filter f l) → (x ∈ y ∷ l) × T (f x)
+      step rest (inl k) = (List·Memᴰ·head (k .1), subst (λ (z : A). T (f z)) (sym (k .1)) (k .0))
+      step rest (inr k) = let r = rest k in (List·Memᴰ·tail (r .0), r .1)
+
+module _ {A B : Type 0} where
+  pub map-in : (f : A → B) {x : A} {l : List A} → x ∈ l → f x ∈ map f l
+  map-in f (List·Memᴰ·head e) = List·Memᴰ·head (ap f e)
+  map-in f (List·Memᴰ·tail m) = List·Memᴰ·tail (map-in f m)
+
+  pub any-map : (f : B → Bool) (g : A → B) (l : List A) → any f (map g l) ≡ any (λ x. f (g x)) l
+  unfolding any
+  any-map f g [] = refl
+  any-map f g (x ∷ l) = ap (λ (b : Bool). f (g x) || b) (any-map f g l)
+
+  pub map-out : (f : A → B) (l : List A) {y : B} → y ∈ map f l → (x : A) × (x ∈ l) × (y ≡ f x)
+  map-out f [] m = elim m [ ]
+  map-out f (x ∷ l) {y} m = step (λ (k : y ∈ map f l). map-out f l k) (List·Memᴰ·cases-cons m)
+    where
+      step : (y ∈ map f l → (z : A) × (z ∈ l) × (y ≡ f z)) → (y ≡ f x) ⊎ (y ∈ map f l) → (z : A) × (z ∈ x ∷ l) × (y ≡ f z)
+      step rest (inl e) = (x, List·Memᴰ·head refl, e)
+      step rest (inr k) = let (z, i, e) = rest k in (z, List·Memᴰ·tail i, e)
+
+-- ---- the numbers below n
+pub below-in : (n : ℕ) {i : ℕ} → i < n → i ∈ below n
+unfolding below
+below-in zero h = absurd (not-suc-le-zero h)
+below-in (suc n) {i} h = step (λ (k : i < n). below-in n k) (dec-T (eqb i n))
+  where
+    step : (i < n → i ∈ below n) → T (eqb i n) ⊎ T (not (eqb i n)) → i ∈ n ∷ below n
+    step rest (inl k) = List·Memᴰ·head (eqb→eq i n k)
+    step rest (inr k) = List·Memᴰ·tail (rest (omega (arith, neqb→ne i n k)))
+
+pub below-out : (n : ℕ) {i : ℕ} → i ∈ below n → i < n
+unfolding below
+below-out zero m = elim m [ ]
+below-out (suc n) {i} m = step (λ (k : i ∈ below n). below-out n k) (List·Memᴰ·cases-cons m)
+  where
+    step : (i ∈ below n → i < n) → (i ≡ n) ⊎ (i ∈ below n) → i < suc n
+    step rest (inl e) = omega arith
+    step rest (inr k) = let h : i < n = rest k in omega arith

@@ -1,0 +1,6 @@
+-- Tests over lists: any, all, filter, the numbers below n
+pub mod Tests
+-- Sets of acceptors and of learners as the bits of a number
+pub mod Sets
+-- Big-endian numbers in lists of bytes, and a list with bytes put in
+pub mod Bytes

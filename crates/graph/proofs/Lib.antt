@@ -1,0 +1,2 @@
+-- What the tests of the learner graph say
+pub mod LearnerGraph

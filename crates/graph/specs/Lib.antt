@@ -1,0 +1,2 @@
+-- The learner graph as lists of masks: quorum, safe set, valid, condensed
+pub mod LearnerGraph

@@ -1,0 +1,1 @@
+// The learner graph of a site.
