@@ -4,3 +4,5 @@ pub mod Tests
 pub mod Sets
 -- Big-endian numbers in lists of bytes, and a list with bytes put in
 pub mod Bytes
+-- The refusals and their numbers
+pub mod Refusals

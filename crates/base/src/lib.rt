@@ -1,4 +1,7 @@
 // What every layer leans on: bytes widened, big-endian numbers read and written by shifts, bytes copied.
+
+pub mod refusal;
+
 ghost use mathlib.Core.Path.{_≡_};
 ghost use mathlib.Core.List.{[], _∷_};
 ghost use Prim.Native.Nat.{ℕ, _+_, _*_, _^_, _≤_, _<_};

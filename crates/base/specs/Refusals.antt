@@ -1,0 +1,40 @@
+-- The table "When a call is turned down" of document 01: a name and a number for each row.
+use Prim.Native.Nat.{ℕ}
+use Rattle.base.specs.declared.refusal.Refusal.{Refusal}
+use Rattle.base.specs.declared.refusal.Refusal.the-variants.{Length, Version, Range, Order, Mask, NotValid, NotCondensed, OtherRound, Signer, Known, Reference, Previous, NoProposal, Malformed1b, Malformed2a, Full, Argument}
+
+abbrev pub numberOf : Refusal → ℕ
+-- length wrong, bytes short or left over
+numberOf Length = 1
+-- version not 1
+numberOf Version = 2
+-- kind, marker or a count outside its range
+numberOf Range = 3
+-- ids or masks not ascending
+numberOf Order = 4
+-- mask zero, naming an acceptor that the file lacks, or containing an earlier one
+numberOf Mask = 5
+-- graph not valid
+numberOf NotValid = 6
+-- graph not condensed
+numberOf NotCondensed = 7
+-- another house or bay
+numberOf OtherRound = 8
+-- signer of an acceptor message not in the graph
+numberOf Signer = 9
+-- known already
+numberOf Known = 10
+-- a reference not known
+numberOf Reference = 11
+-- previous message not referred to, a proposal, or of another signer
+numberOf Previous = 12
+-- no proposal in Tran
+numberOf NoProposal = 13
+-- 1b not well-formed
+numberOf Malformed1b = 14
+-- 2a not well-formed
+numberOf Malformed2a = 15
+-- full
+numberOf Full = 16
+-- learner or own acceptor number not in the graph, a lent buffer too short, a round handed in that no table can be
+numberOf Argument = 17
