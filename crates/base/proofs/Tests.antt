@@ -139,6 +139,30 @@ module _ {A : Type 0} where
       step rest (inl k) = (List·Memᴰ·head (k .1), subst (λ (z : A). T (f z)) (sym (k .1)) (k .0))
       step rest (inr k) = let r = rest k in (List·Memᴰ·tail (r .0), r .1)
 
+  -- a test of some, or of all, of the elements that pass another
+  pub any-filter : (f g : A → Bool) (l : List A) → any f (filter g l) ≡ any (λ x. g x && f x) l
+  any-filter f g l = same-test _ _ to from
+    where
+      to : T (any f (filter g l)) → T (any (λ x. g x && f x) l)
+      to h =
+          let (x, m, k) = any-out f (filter g l) h in
+          let (i, j) = filter-out g l m in
+          any-in (λ x. g x && f x) i (and-in (g x) (f x) j k)
+
+      from : T (any (λ x. g x && f x) l) → T (any f (filter g l))
+      from h =
+          let (x, m, k) = any-out (λ x. g x && f x) l h in
+          any-in f (filter-in g m (and-l (g x) (f x) k)) (and-r (g x) (f x) k)
+
+  pub all-filter : (f g : A → Bool) (l : List A) → all f (filter g l) ≡ all (λ x. not (g x) || f x) l
+  all-filter f g l = same-test _ _ to from
+    where
+      to : T (all f (filter g l)) → T (all (λ x. not (g x) || f x) l)
+      to h = all-in _ _ (λ x m. imp-in (g x) (f x) (λ k. all-out f (filter-in g m k) h))
+
+      from : T (all (λ x. not (g x) || f x) l) → T (all f (filter g l))
+      from h = all-in _ _ (λ x m. let (i, j) = filter-out g l m in imp-out (g x) (f x) (all-out (λ x. not (g x) || f x) i h) j)
+
 module _ {A B : Type 0} where
   pub map-in : (f : A → B) {x : A} {l : List A} → x ∈ l → f x ∈ map f l
   map-in f (List·Memᴰ·head e) = List·Memᴰ·head (ap f e)

@@ -1,0 +1,52 @@
+-- Two ids are the same if they are equal
+pub mod Ids
+-- 1b, 2a, signers, and what Tran holds
+pub mod Message
+-- A message's ballot is the largest in its Tran
+pub mod Ballot
+-- Caught in words
+pub mod Caught
+-- The knot of lrns: its equation, with no height in sight
+pub mod Knot
+-- Con, Buried, Con2as, fresh, lrns in the words of document 01
+pub mod Learners
+-- The chain property and well-formed messages in words
+pub mod WellFormed
+-- When a ballot decides, in words; definition 19
+pub mod Decides
+-- The report by what it says: undecided, decided, split
+pub mod Report
+-- The acceptor messages of an honest acceptor are in a line
+pub mod Chain
+-- Theorem 22, on trees
+pub mod Agreement
+-- Theorem 21
+pub mod Validity
+-- The message of a place, and: Tran of it is the messages of the places that it reaches
+pub mod Table
+-- A table that grows keeps its messages
+pub mod Growth
+-- Accepted places as a table grows
+pub mod Accepted
+-- Equal ids give equal messages, and agreement between two tables
+pub mod Tables
+-- A test over Tran of a place is a loop over places
+pub mod Loops
+-- The definitions at a place: 1b, 2a, ballot, Caught, chain, well-formed 1b
+pub mod Places
+-- The definitions at a place: Buried, fresh, lrns, decisions and the report
+pub mod PlacesLearners
+-- A table that is written out meets the premises of agreement by tests
+pub mod TableTests
+-- A run that meets every premise of agreement
+pub mod Run
+-- A run with a forking acceptor, in which learners that are not entangled decide differently
+pub mod ForkedRun
+-- Honest acceptors and the proposal in Tran, by the records of a table
+pub mod Records
+-- The highest ballot of some places
+pub mod Highest
+-- Buried by two ballots: the highest, and the highest of another value
+pub mod Bury
+-- The misreadings that document 01 shuts out, each with a case in which it would answer otherwise
+pub mod Misreadings

@@ -1,0 +1,100 @@
+-- The definitions at a place, as equations over the records and over what is worked out for earlier places: Con, Buried, fresh, lrns,
+-- well-formed 2as, decisions and the report.
+use mathlib.Core.Path.{_≡_, refl, sym, ap, subst, _∙_}
+use mathlib.Core.Logic.{_↔_}
+use mathlib.Core.Bool.{not, _&&_, _||_}
+use mathlib.Core.List.{List, map}
+use Prim.Native.Nat.{ℕ, _≤_}
+use lib.Dec.{T, eqb, ltb, eqb-refl, not-T}
+use Rattle.base.specs.Tests.{_∈_, any, all, filter, below}
+use Rattle.base.proofs.Tests.{and-l, and-cong, or-r, any-filter, all-filter, any-map}
+use Rattle.graph.specs.LearnerGraph.{LearnerGraph, isQuorum, safeWithout}
+use Rattle.protocol.specs.Message.{Message, signer, is2a, signers, tran, ballot, value}
+use Rattle.protocol.specs.Learners.{con, overrides, buriesBy, buriedBy, ownVote, standsBy, con2aBy, con2asBy, sameValue, freshBy, backsBy, backersBy, lrns, backers}
+use Rattle.protocol.specs.WellFormed.{formed2a, wellFormed}
+use Rattle.protocol.specs.Report.{votes, decides, Verdict}
+use Rattle.protocol.specs.Table.{Table, at, heldSigner, Ordered, tree, messages, reach}
+use Rattle.protocol.specs.Places.{is1bAt, is2aAt, ballotAt, valueAt, caughtAt, chainedAt, formed1bAt, conAt, buriedAt, freshAt, lrnsAt, formed2aAt, decidesAt, reportAt}
+use Rattle.protocol.proofs.Message.{2a-law}
+use Rattle.protocol.proofs.Knot.{lrns-is}
+use Rattle.protocol.proofs.Report.{Says, says-cong, Deciding, report-law}
+use Rattle.protocol.proofs.Table.{tree-signer}
+use Rattle.protocol.proofs.Tables.{messages-in, messages-out}
+use Rattle.protocol.proofs.Loops.{any-beneath, all-beneath}
+
+module _ (t : Table) (G : LearnerGraph) (i : ℕ) where
+  pub con-at : (a b : ℕ) → conAt t G a i b ≡ safeWithout G a b (caughtAt t i)
+  unfolding con
+  con-at a b = refl
+
+  pub formed2a-at : formed2aAt t G i ≡ (not (is2aAt t i) || any (lrnsAt t G i) (below (G .learners)))
+  unfolding formed2a
+  formed2a-at = refl
+
+  pub wellFormed-at : wellFormed G (tree t i) ≡ (chainedAt t i && formed1bAt t i && formed2aAt t G i)
+  unfolding wellFormed
+  wellFormed-at = refl
+
+module _ (t : Table) (G : LearnerGraph) (ord : Ordered t) (i n : ℕ) (l : i ≤ n) where
+  -- ---- Buried, at a 1b
+  pub buried-at : T (is1bAt t i) → (b j : ℕ)
+      → buriedAt t G b j i ≡ any (λ k. reach t i k && (is2aAt t k && lrnsAt t G k b && (ltb (ballotAt t j) (ballotAt t k) && not (eqb (valueAt t k) (valueAt t j))))) (below n)
+  unfolding buriedBy buriesBy overrides
+  buried-at one b j = any-beneath t ord i (buriesBy (lrns G) b (tree t j)) (not-T (buriesBy (lrns G) b (tree t j) (tree t i)) (λ h. 2a-law (tree t i) .0 (search and-l) .1 one)) n l
+
+  -- ---- fresh, at a 1b: every 2a that i reaches, of its signer, with a learner that is connected and for which it is not buried, has the
+  -- value of i
+  pub fresh-at : T (is1bAt t i) → (a : ℕ)
+      → freshAt t G a i ≡ all (λ j. not (reach t i j) || (not (is2aAt t j && eqb (heldSigner (at t j)) (heldSigner (at t i))
+      && any (λ b. lrnsAt t G j b && conAt t G a i b && not (buriedAt t G b j i)) (below (G .learners))) || eqb (valueAt t j) (valueAt t i))) (below n)
+  unfolding freshBy sameValue con2asBy con2aBy ownVote standsBy
+  fresh-at one a =
+      all-filter (λ m. eqb (value m) (value (tree t i))) (con2aBy G (lrns G) a (tree t i)) (tran (tree t i))
+      ∙ all-beneath t ord i (λ m. not (con2aBy G (lrns G) a (tree t i) m) || eqb (value m) (value (tree t i)))
+      (or-r (not (con2aBy G (lrns G) a (tree t i) (tree t i))) (eqb (valueAt t i) (valueAt t i)) (eqb-refl (valueAt t i))) n l
+      ∙ (λ e. all (λ j. not (reach t i j) || (not (is2aAt t j && eqb (tree-signer t j e) (tree-signer t i e)
+      && any (λ b. lrnsAt t G j b && conAt t G a i b && not (buriedAt t G b j i)) (below (G .learners))) || eqb (valueAt t j) (valueAt t i))) (below n))
+
+  -- ---- lrns: the signers of the 1bs that i reaches, fresh for a and of the ballot of i, are a quorum of a
+  backers-at : T (is2aAt t i) → (a p : ℕ)
+      → backers G a (tree t i) p ≡ any (λ j. reach t i j && (is1bAt t j && freshAt t G a j && eqb (ballotAt t j) (ballotAt t i) && eqb (heldSigner (at t j)) p)) (below n)
+  unfolding backersBy backsBy signers
+  backers-at two a p =
+      any-filter (λ y. eqb (signer y) p) (backsBy G (lrns G) a (tree t i)) (tran (tree t i))
+      ∙ any-beneath t ord i (λ y. backsBy G (lrns G) a (tree t i) y && eqb (signer y) p)
+      (not-T (backsBy G (lrns G) a (tree t i) (tree t i) && eqb (signer (tree t i)) p) (λ h. 2a-law (tree t i) .0 two .1 (search and-l))) n l
+      ∙ (λ e. any (λ j. reach t i j && (is1bAt t j && freshAt t G a j && eqb (ballotAt t j) (ballotAt t i) && eqb (tree-signer t j e) p)) (below n))
+
+  pub lrns-at : (a : ℕ)
+      → lrnsAt t G i a ≡ (is2aAt t i && isQuorum G a (λ p. any (λ j. reach t i j && (is1bAt t j && freshAt t G a j && eqb (ballotAt t j) (ballotAt t i) && eqb (heldSigner (at t j)) p)) (below n)))
+  lrns-at a = lrns-is G (tree t i) a ∙ and-cong (is2aAt t i) _ _ (λ two. λ e. isQuorum G a (λ p. backers-at two a p e))
+
+-- ---- decisions, over the known places ks
+module _ (t : Table) (G : LearnerGraph) (ks : List ℕ) (a : ℕ) where
+  pub decides-at : (x : ℕ) → decidesAt t G ks a x ≡ isQuorum G a (λ p. any (λ j. is2aAt t j && eqb (ballotAt t j) x && lrnsAt t G j a && eqb (heldSigner (at t j)) p) ks)
+  unfolding decides votes signers messages
+  decides-at x = λ e. isQuorum G a (λ p. voters p e)
+    where
+      voters : (p : ℕ) → any (λ m. eqb (signer m) p) (filter (votes G a x) (map (tree t) ks)) ≡ any (λ j. is2aAt t j && eqb (ballotAt t j) x && lrnsAt t G j a && eqb (heldSigner (at t j)) p) ks
+      voters p =
+          any-filter (λ m. eqb (signer m) p) (votes G a x) (map (tree t) ks)
+          ∙ any-map (λ m. votes G a x m && eqb (signer m) p) (tree t) ks
+          ∙ (λ e. any (λ j. is2aAt t j && eqb (ballotAt t j) x && lrnsAt t G j a && eqb (tree-signer t j e) p) ks)
+
+  -- x decides, and a known place holds a 2a of it
+  abbrev pub DecidingAt : ℕ → Type 0
+  DecidingAt x = T (decidesAt t G ks a x) × ((j : ℕ) × (j ∈ ks) × T (is2aAt t j) × (ballotAt t j ≡ x))
+
+  deciding-at : (x : ℕ) → Deciding G (messages t ks) a x ↔ DecidingAt x
+  deciding-at x = (to, λ (d, (j, k, two, e)). (d, (tree t j, messages-in t ks j k, two, e)))
+    where
+      to : Deciding G (messages t ks) a x → DecidingAt x
+      to (d, (m, k, two, e)) =
+          let (j, h, q) = messages-out t ks m k in
+          (d, (j, h, subst (λ (y : Message). T (is2a y)) q two, ap ballot (sym q) ∙ e))
+
+  pub report-at : (v : Verdict) → (reportAt t G ks a ≡ v) ↔ Says DecidingAt v
+  report-at v = (
+    λ e. says-cong (Deciding G (messages t ks) a) DecidingAt deciding-at v (report-law G (messages t ks) a v .0 e),
+    λ h. report-law G (messages t ks) a v .1 (says-cong DecidingAt (Deciding G (messages t ks) a) (λ x. (deciding-at x .1, deciding-at x .0)) v h),
+  )

@@ -1,0 +1,16 @@
+-- Ids, and when two are the same
+pub mod Ids
+-- Messages as trees: 1b, 2a, signers, Tran, B, V and Caught (report, definitions 4 to 11)
+pub mod Message
+-- Con, Buried, Con2as, fresh, quorum of a message and lrns (definitions 12 to 17)
+pub mod Learners
+-- The chain property and well-formed messages (definitions 18 and 20)
+pub mod WellFormed
+-- When a ballot decides, and the report for a learner (definition 19)
+pub mod Report
+-- Tables of held messages: a record names its references by places; the message of a place
+pub mod Table
+-- The definitions at a place of a table
+pub mod Places
+-- The theorems, as statements: validity and agreement (theorems 21 and 22), and agreement between two tables
+pub mod Theorems
