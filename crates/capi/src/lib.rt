@@ -1,0 +1,2 @@
+// The C interface: each call is declared for C in include/hpaxos.h.
+mod digest_calls;

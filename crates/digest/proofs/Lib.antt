@@ -1,0 +1,4 @@
+-- Laws of the padded message and of its blocks
+pub mod LastBlocks
+-- Digests that the checker computes from the definition
+pub mod Vectors
