@@ -1,11 +1,14 @@
 -- Laws of the tests over lists: what a passed test says, and how to pass one.
-use mathlib.Core.Path.{_≡_, refl, sym, ap, subst}
+use mathlib.Core.Path.{_≡_, refl, sym, ap, ap₂, _∙_, subst}
 use mathlib.Core.Logic.{_⊎_, inl, inr, _≢_}
 use mathlib.Core.Bool.{Bool, true, false, not, _&&_, _||_}
 use mathlib.Core.List.{List, [], _∷_, map, List·Memᴰ·head, List·Memᴰ·tail, Memᴰ·cast, List·Memᴰ·cases-cons}
-use Prim.Native.Nat.{ℕ, zero, suc, _<_}
+use Prim.Native.Nat.{ℕ, zero, suc, _+_, _-_, _≤_, _<_}
 use native.Mathlib.Omega.{arith}
 use native.Mathlib.Nat.{not-suc-le-zero}
+use native.Mathlib.Numerals.{add-one}
+use lib.ListN.{length, getD, take, length-take, drop-of-length-le}
+use lib.Seq.{slice, slice-cons}
 use lib.Dec.{T, eqb, eqb→eq, eqb-refl, not-T, T-not}
 use Rattle.base.specs.Tests.{_∈_, pick, any, all, filter, below}
 
@@ -199,3 +202,57 @@ below-out (suc n) {i} m = step (λ (k : i ∈ below n). below-out n k) (List·Me
     step : (i ∈ below n → i < n) → (i ≡ n) ⊎ (i ∈ below n) → i < suc n
     step rest (inl e) = omega arith
     step rest (inr k) = let h : i < n = rest k in omega arith
+
+-- ---- tests over the places of a list from i to t, as a loop makes them
+module _ (f : ℕ → Bool) (l : List ℕ) (t : ℕ) where
+  none-left : (i : ℕ) → t ≤ i → slice i t l ≡ []
+  none-left i h = drop-of-length-le (take t l) {i = i} (let e = length-take t l in omega arith)
+
+  pub any-end : (i : ℕ) → t ≤ i → any f (slice i t l) ≡ false
+  unfolding any
+  any-end i h = ap (any f) (none-left i h)
+
+  pub all-end : (i : ℕ) → t ≤ i → all f (slice i t l) ≡ true
+  unfolding all
+  all-end i h = ap (all f) (none-left i h)
+
+  pub any-here : (i : ℕ) → i < t → t ≤ length l → f (getD l i 0) ≡ true → any f (slice i t l) ≡ true
+  unfolding any
+  any-here i h k e = ap (any f) (slice-cons i t l 0 h k) ∙ ap (λ (b : Bool). b || any f (slice (suc i) t l)) e
+
+  pub any-past : (i : ℕ) → i < t → t ≤ length l → f (getD l i 0) ≡ false → any f (slice i t l) ≡ any f (slice (i + 1) t l)
+  unfolding any
+  any-past i h k e =
+      ap (any f) (slice-cons i t l 0 h k) ∙ ap (λ (b : Bool). b || any f (slice (suc i) t l)) e ∙ ap (λ (j : ℕ). any f (slice j t l)) (sym (add-one i))
+
+  pub all-here : (i : ℕ) → i < t → t ≤ length l → f (getD l i 0) ≡ false → all f (slice i t l) ≡ false
+  unfolding all
+  all-here i h k e = ap (all f) (slice-cons i t l 0 h k) ∙ ap (λ (b : Bool). b && all f (slice (suc i) t l)) e
+
+  pub all-past : (i : ℕ) → i < t → t ≤ length l → f (getD l i 0) ≡ true → all f (slice i t l) ≡ all f (slice (i + 1) t l)
+  unfolding all
+  all-past i h k e =
+      ap (all f) (slice-cons i t l 0 h k) ∙ ap (λ (b : Bool). b && all f (slice (suc i) t l)) e ∙ ap (λ (j : ℕ). all f (slice j t l)) (sym (add-one i))
+
+-- ---- tests of the numbers below n, as a loop that counts down makes them
+module _ (f : ℕ → Bool) where
+  pub below-here : (i : ℕ) → 0 < i → f (i - 1) ≡ false → all f (below i) ≡ false
+  unfolding all below
+  below-here zero h e = absurd (not-suc-le-zero h)
+  below-here (suc i) h e = let p : i ≡ suc i - 1 = omega arith in ap (λ (j : ℕ). f j && all f (below i)) p ∙ ap (λ (b : Bool). b && all f (below i)) e
+
+  pub below-past : (i : ℕ) → 0 < i → f (i - 1) ≡ true → all f (below i) ≡ all f (below (i - 1))
+  unfolding all below
+  below-past zero h e = absurd (not-suc-le-zero h)
+  below-past (suc i) h e = let p : i ≡ suc i - 1 = omega arith in
+      ap (λ (j : ℕ). f j && all f (below i)) p ∙ ap (λ (b : Bool). b && all f (below i)) e ∙ ap (λ (j : ℕ). all f (below j)) p
+
+-- some element passes f exactly where not every one passes g
+pub any-not-all : {A : Type 0} (f g : A → Bool) (l : List A) → ((x : A) → f x ≡ not (g x)) → any f l ≡ not (all g l)
+unfolding any all
+any-not-all f g [] h = refl
+any-not-all f g (x ∷ l) h = ap₂ _||_ (h x) (any-not-all f g l h) ∙ step (g x) (all g l)
+  where
+    step : (a b : Bool) → (not a || not b) ≡ not (a && b)
+    step true b = refl
+    step false b = refl

@@ -1,2 +1,6 @@
 -- What the C calls for the digest answer and write
 pub mod Digest
+-- What the C calls for messages answer and write
+pub mod Message
+-- What the C call for graph files answers
+pub mod Graph

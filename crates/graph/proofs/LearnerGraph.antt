@@ -1,14 +1,15 @@
 -- What the tests of the learner graph say: one law, an equivalence, for each.
-use mathlib.Core.Path.{_≡_}
+use mathlib.Core.Path.{_≡_, sym, subst}
 use mathlib.Core.Logic.{_↔_}
 use mathlib.Core.Bool.{Bool, not, _&&_, _||_}
 use mathlib.Core.List.{List}
 use Prim.Native.Nat.{ℕ, _<_}
-use lib.Dec.{T}
+use lib.Bits.{bitAnd}
+use lib.Dec.{T, T-not, not-T}
 use Rattle.base.specs.Tests.{_∈_, any, all, below}
 use Rattle.base.specs.Sets.{has, contains, apart}
-use Rattle.base.proofs.Tests.{any-in, any-out, all-in, all-out, below-in, below-out, and-l, and-r, and-in, any-cong}
-use Rattle.base.proofs.Sets.{Contains, contains-law, contains-cong, Apart, apart-law, apart-cong}
+use Rattle.base.proofs.Tests.{any-in, any-out, all-in, all-out, below-in, below-out, and-l, and-r, and-in, same-test, any-cong}
+use Rattle.base.proofs.Sets.{Contains, contains-law, contains-cong, Apart, apart-law, apart-cong, has-and}
 use Rattle.graph.specs.LearnerGraph.{LearnerGraph, isQuorum, isSafe, safeWithout, common, validAt, valid, condensedAt, condensed}
 
 module _ (G : LearnerGraph) where
@@ -108,3 +109,16 @@ module _ (G : LearnerGraph) where
   -- a-b and b-a have the same listed masks
   abbrev pub Symmetric : Type 0
   Symmetric = (a b s : ℕ) → s ∈ G .safes a b → s ∈ G .safes b a
+
+  -- none in common with what s and q have in common
+  pub apart-common : (s q t : ℕ) → apart (G .acceptors) (has (bitAnd s q)) t ≡ not (common G s q t)
+  apart-common s q t = same-test _ _ to from
+    where
+      to : T (apart (G .acceptors) (has (bitAnd s q)) t) → T (not (common G s q t))
+      to h = not-T (common G s q t) (λ k. let (p, l, x, y, z) = common-law s q t .0 k in
+          apart-law (G .acceptors) (has (bitAnd s q)) t .0 h p l z (subst T (sym (has-and s q p)) (and-in (has s p) (has q p) x y)))
+
+      from : T (not (common G s q t)) → T (apart (G .acceptors) (has (bitAnd s q)) t)
+      from h = apart-law (G .acceptors) (has (bitAnd s q)) t .1 (λ p l z m.
+          let u = subst T (has-and s q p) m in
+          T-not (common G s q t) h (common-law s q t .1 (p, l, and-l (has s p) (has q p) u, and-r (has s p) (has q p) u, z)))

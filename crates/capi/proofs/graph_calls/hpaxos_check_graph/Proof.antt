@@ -1,0 +1,21 @@
+use mathlib.Core.Path.{ap, _∙_}
+use Rattle.graph.specs.File.{answerNumber}
+use borrow.Author.Needs.{needs}
+use Rattle.capi.proofs.graph_calls.hpaxos_check_graph.Statement.{statement}
+use Rattle.capi.proofs.graph_calls.hpaxos_check_graph.Tie as tie
+use Rattle.capi.proofs.graph_calls.hpaxos_check_graph.Reads as reads
+use Rattle.capi.proofs.graph_calls.hpaxos_check_graph.Lts as lts
+use Rattle.graph.proofs.answer_number.Reads as answer-number-reads
+use Rattle.graph.proofs.check.Reads as check-reads
+
+check-requires : tie.Need-check-requires
+check-requires c κs = search needs
+
+answer-number-requires : tie.Need-answer-number-requires
+answer-number-requires c κs = search needs
+
+returns : tie.Need-returns
+returns c = c .answer-number .ensures ∙ ap answerNumber (c .before .check .ensures)
+
+pub hpaxos-check-graph-spec : {M : Type 1} → statement M
+hpaxos-check-graph-spec = tie.close (tie.spec check-requires answer-number-requires returns)

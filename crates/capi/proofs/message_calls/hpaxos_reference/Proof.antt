@@ -1,0 +1,26 @@
+use mathlib.Core.Path.{ap, _∙_}
+use Rattle.capi.specs.Message.{answerOf}
+use borrow.Author.Needs.{needs}
+use native.Mathlib.Omega.{arith}
+use Rattle.capi.proofs.message_calls.hpaxos_reference.Statement.{statement}
+use Rattle.capi.proofs.message_calls.hpaxos_reference.Tie as tie
+use Rattle.capi.proofs.message_calls.hpaxos_reference.Reads as reads
+use Rattle.capi.proofs.message_calls.hpaxos_reference.Lts as lts
+use Rattle.capi.proofs.message_calls.answer.Reads as answer-reads
+use Rattle.message.proofs.copy_reference.Reads as copy-reference-reads
+
+copy-reference-requires : tie.Need-copy-reference-requires
+copy-reference-requires c κs = search needs
+
+answer-requires : tie.Need-answer-requires
+answer-requires c κs = search needs
+
+same-length : tie.Need-same-length
+same-length c = search needs
+
+returns : tie.Need-returns
+returns c = (c .answer .ensures ∙ ap answerOf (c .before .before .before .copy-reference .ensures .0), c .before .before .before .copy-reference .ensures .1)
+
+pub hpaxos-reference-spec : {M : Type 1} → statement M
+hpaxos-reference-spec =
+    tie.close (tie.spec copy-reference-requires answer-requires same-length returns)

@@ -1,0 +1,68 @@
+use mathlib.Core.Path.{_≡_, refl, ap, ap₂, sym, _∙_}
+use Prim.Native.Nat.{ℕ, suc, _≤_, _<_, _-_, _+_, _*_, _/_, _^_, min, max}
+use lib.ListN.{length, getD}
+use mathlib.Core.Bool.{Bool, not}
+use borrow.Author.Tests.{not-true, not-false}
+use Rattle.base.specs.Tests.{all, below}
+use Rattle.base.proofs.Tests.{below-here, below-past}
+use Rattle.graph.specs.Held.{heldGraph}
+use Rattle.graph.specs.LearnerGraph.{condensedAt, condensed}
+use borrow.Author.Needs.{needs}
+use native.Mathlib.Omega.{arith}
+use Rattle.graph.proofs.condensed.is_condensed.Statement.{statement}
+use Rattle.graph.proofs.condensed.is_condensed.Tie as tie
+use Rattle.graph.proofs.condensed.is_condensed.Reads as reads
+use Rattle.graph.proofs.condensed.is_condensed.Lts as lts
+use Rattle.graph.proofs.condensed.condensed_row.Reads as condensed-row-reads
+
+-- lemmas
+
+-- The invariant: the learners that are left decide.
+
+-- needs
+
+abbrev Inv-loop : tie.InvT-loop
+Inv-loop counts masks acceptors learners a₀ a = (a ≤ learners) × (all (λ x. all (λ b. all (λ c. condensedAt (heldGraph acceptors learners counts masks) x b c) (below learners)) (below learners)) (below learners) ≡ all (λ x. all (λ b. all (λ c. condensedAt (heldGraph acceptors learners counts masks) x b c) (below learners)) (below learners)) (below a))
+
+abbrev μ-loop : tie.MeasureT-loop
+μ-loop counts masks acceptors learners a₀ a = a
+
+loop-holds : tie.Need-loop-holds Inv-loop μ-loop
+loop-holds c = (omega arith, refl)
+
+sub-a : tie.Need-sub-a Inv-loop μ-loop
+sub-a c = search needs
+
+condensed-row-requires : tie.Need-condensed-row-requires Inv-loop μ-loop
+condensed-row-requires c κs = search needs
+
+returns : tie.Need-returns Inv-loop μ-loop
+unfolding condensed
+returns c = let a = c .before .before .before .before .before .before .args in let l = c .before .before .before .loop in
+    sym (l .inv .1 ∙ below-here (λ x. all (λ b. all (λ c. condensedAt (heldGraph (a .acceptors) (a .learners) (a .counts .now) (a .masks .now)) x b c) (below (a .learners))) (below (a .learners))) (l .a) (c .before .before .loop-test .taken) (sym (c .before .condensed-row .ensures) ∙ not-true (c .before .condensed-row .result) (c .if1 .taken)))
+
+loop-less : tie.Need-loop-less Inv-loop μ-loop
+loop-less c = search needs
+
+loop-again : tie.Need-loop-again Inv-loop μ-loop
+loop-again c = let a = c .before .before .before .before .before .before .args in let l = c .before .before .before .loop in
+    (omega arith, l .inv .1 ∙ below-past (λ x. all (λ b. all (λ c. condensedAt (heldGraph (a .acceptors) (a .learners) (a .counts .now) (a .masks .now)) x b c) (below (a .learners))) (below (a .learners))) (l .a) (c .before .before .loop-test .taken) (sym (c .before .condensed-row .ensures) ∙ not-false (c .before .condensed-row .result) (c .if1 .left)))
+
+returns-2 : tie.Need-returns-2 Inv-loop μ-loop
+unfolding all below condensed
+returns-2 c = let a = c .before .before .before .before .args in let l = c .before .loop in let e : l .a ≡ 0 = omega arith in
+    sym (l .inv .1 ∙ ap (λ (j : ℕ). all (λ x. all (λ b. all (λ c. condensedAt (heldGraph (a .acceptors) (a .learners) (a .counts .now) (a .masks .now)) x b c) (below (a .learners))) (below (a .learners))) (below j)) e)
+
+pub is-condensed-spec : {M : Type 1} → statement M
+is-condensed-spec =
+    tie.close
+    (tie.spec
+    Inv-loop
+    μ-loop
+    loop-holds
+    sub-a
+    condensed-row-requires
+    returns
+    loop-less
+    loop-again
+    returns-2)

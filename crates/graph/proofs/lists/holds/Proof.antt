@@ -1,0 +1,34 @@
+use mathlib.Core.Path.{_≡_, refl, ap, ap₂, sym, _∙_}
+use Prim.Native.Nat.{ℕ, suc, _≤_, _<_, _-_, _+_, _*_, _/_, _^_, min, max}
+use lib.ListN.{length, getD}
+use Rattle.base.specs.Tests.{any}
+use lib.Seq.{slice}
+use Rattle.graph.specs.Held.{within, listOf}
+use borrow.Author.Needs.{needs}
+use native.Mathlib.Omega.{arith}
+use Rattle.graph.proofs.lists.holds.Statement.{statement}
+use Rattle.graph.proofs.lists.holds.Tie as tie
+use Rattle.graph.proofs.lists.holds.Reads as reads
+use Rattle.graph.proofs.lists.holds.Lts as lts
+use Rattle.graph.proofs.lists.count_of.Reads as count-of-reads
+use Rattle.graph.proofs.lists.some_within.Reads as some-within-reads
+
+mul-from : tie.Need-mul-from
+mul-from c = search needs
+
+count-of-requires : tie.Need-count-of-requires
+count-of-requires c κs = search needs
+
+add-to : tie.Need-add-to
+add-to c = search needs
+
+some-within-requires : tie.Need-some-within-requires
+some-within-requires c κs = search needs
+
+returns : tie.Need-returns
+unfolding listOf
+returns c = let a = c .before .before .before .before .args in
+    c .some-within .ensures ∙ ap (λ (n : ℕ). any (within (a .set)) (slice (8 * a .k) (8 * a .k + n) (a .masks .now))) (c .before .count-of .ensures .0)
+
+pub holds-spec : {M : Type 1} → statement M
+holds-spec = tie.close (tie.spec mul-from count-of-requires add-to some-within-requires returns)

@@ -1,0 +1,26 @@
+use mathlib.Core.Path.{_≡_, refl, ap, ap₂, sym, _∙_}
+use Prim.Native.Nat.{ℕ, suc, _≤_, _<_, _-_, _+_, _*_, _/_, _^_, min, max}
+use lib.ListN.{length, getD}
+use Rattle.base.proofs.Bits.{one-shl}
+use lib.Pow.{pow-pos}
+use borrow.Author.Needs.{needs}
+use native.Mathlib.Omega.{arith}
+use Rattle.graph.proofs.lists.known.Statement.{statement}
+use Rattle.graph.proofs.lists.known.Tie as tie
+use Rattle.graph.proofs.lists.known.Reads as reads
+use Rattle.graph.proofs.lists.known.Lts as lts
+
+shl-result : tie.Need-shl-result
+shl-result c = search needs
+
+sub-result : tie.Need-sub-result
+sub-result c = let e = one-shl 32 (c .before .args .n) (omega arith) in let p = pow-pos (c .before .args .n) in omega arith
+
+returns : tie.Need-returns
+returns c = let n = c .before .args .n in let m : min n 32 ≡ n = omega arith in ap (λ (x : ℕ). x - 1) (one-shl 32 n (omega arith)) ∙ sym (ap (λ (x : ℕ). 2 ^ x - 1) m)
+
+returns-2 : tie.Need-returns-2
+returns-2 c = let m : min (c .before .args .n) 32 ≡ 32 = omega arith in sym (ap (λ (x : ℕ). 2 ^ x - 1) m)
+
+pub known-spec : {M : Type 1} → statement M
+known-spec = tie.close (tie.spec shl-result sub-result returns returns-2)

@@ -1,0 +1,22 @@
+use mathlib.Core.Path.{_≡_, refl, ap, ap₂, sym, _∙_}
+use Prim.Native.Nat.{ℕ, suc, _≤_, _<_, _-_, _+_, _*_, _/_, _^_, min, max}
+use lib.ListN.{length, getD}
+use Rattle.graph.proofs.Held.{triangle-half, half-small}
+use borrow.Author.Needs.{needs}
+use native.Mathlib.Omega.{arith}
+use Rattle.graph.proofs.lists.triangle.Statement.{statement}
+use Rattle.graph.proofs.lists.triangle.Tie as tie
+use Rattle.graph.proofs.lists.triangle.Reads as reads
+use Rattle.graph.proofs.lists.triangle.Lts as lts
+
+add-result : tie.Need-add-result
+add-result c = search needs
+
+mul-result : tie.Need-mul-result
+mul-result c = let e = half-small (c .args .b) (c .pre) in omega arith
+
+returns : tie.Need-returns
+returns c = let e = half-small (c .args .b) (c .pre) in let f = triangle-half (c .args .b) in (f, omega arith)
+
+pub triangle-spec : {M : Type 1} → statement M
+triangle-spec = tie.close (tie.spec add-result mul-result returns)

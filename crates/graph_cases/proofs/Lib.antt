@@ -1,0 +1,2 @@
+-- What the sample files answer
+pub mod Cases

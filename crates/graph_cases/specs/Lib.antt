@@ -1,0 +1,2 @@
+-- Sample files
+pub mod Cases

@@ -1,0 +1,64 @@
+use mathlib.Core.Path.{_≡_, refl, ap, _∙_}
+use mathlib.Core.List.{List}
+use Prim.Native.Nat.{ℕ}
+use lib.ListN.{length}
+use borrow.Author.Tests.{lt-ltb, le-ltb}
+use Rattle.base.specs.Bytes.{bytes, putAt}
+use Rattle.base.proofs.Bytes.{more}
+use Rattle.message.specs.Ballots.{ballotOf, writtenRound}
+use Rattle.message.specs.Writer.{headBytes, proposalBytes, proposalOf}
+use borrow.Author.Needs.{needs}
+use native.Mathlib.Omega.{arith}
+use Rattle.message.proofs.write_proposal.Statement.{statement}
+use Rattle.message.proofs.write_proposal.Tie as tie
+use Rattle.message.proofs.write_proposal.Reads as reads
+use Rattle.message.proofs.write_proposal.Lts as lts
+use Rattle.base.proofs.put64.Reads as put64-reads
+use Rattle.message.proofs.ballot.ballot_of.Reads as ballot-of-reads
+use Rattle.message.proofs.ballot.written_round.Reads as written-round-reads
+use Rattle.message.proofs.writer.write_head.Reads as write-head-reads
+
+returns : tie.Need-returns
+unfolding bytes
+returns c =
+    let a = c .before .before .args in
+    let l = lt-ltb (length (a .buf .now)) 17 (c .if1 .taken) in
+    (simp l, simp l)
+
+write-head-requires : tie.Need-write-head-requires
+write-head-requires c κs = search needs
+
+written-round-requires : tie.Need-written-round-requires
+written-round-requires c κs = search needs
+
+ballot-of-requires : tie.Need-ballot-of-requires
+ballot-of-requires c κs = search needs
+
+put64-requires : tie.Need-put64-requires
+put64-requires c κs = search needs
+
+same-length : tie.Need-same-length
+same-length c = search needs
+
+returns-2 : tie.Need-returns-2
+unfolding bytes
+returns-2 c =
+    let a = c .before .before .before .before .before .before .before .before .before .before .before .before .args in
+    let b = a .buf .now in
+    let l = le-ltb (length b) 17 (c .before .before .before .before .before .before .before .before .before .before .if1 .left) in
+    let x : c .before .before .before .ballot-of .result ≡ ballotOf (writtenRound (a .round)) (a .value) = c .before .before .before .ballot-of .ensures ∙ ap (λ (y : ℕ). ballotOf y (a .value)) (c .before .before .before .before .written-round .ensures) in
+    let w = c .before .before .put64 .ensures ∙ ap (λ (y : ℕ). putAt (c .before .before .before .before .before .before .before .before .write-head .last .0) 9 (bytes 8 y)) x in
+    let m = more (headBytes 17 1 (a .house) (a .bay) (a .proposer)) (bytes 8 (ballotOf (writtenRound (a .round)) (a .value))) b (c .before .before .before .before .before .before .before .before .write-head .last .0) (c .before .before .put64 .last .0) (c .before .before .before .before .before .before .before .before .write-head .ensures) w in
+    (simp l, m ∙ simp l)
+
+pub write-proposal-spec : {M : Type 1} → statement M
+write-proposal-spec =
+    tie.close
+    (tie.spec
+    returns
+    write-head-requires
+    written-round-requires
+    ballot-of-requires
+    put64-requires
+    same-length
+    returns-2)

@@ -1,0 +1,14 @@
+-- Places and lengths of the fields
+pub mod Layout
+-- Ballots: a round number and a value
+pub mod Ballots
+-- Ids that ascend as bytes
+pub mod Order
+-- What bytes say: the fields, or why they are turned down
+pub mod Reader
+-- The outcomes of reading, one by one
+pub mod Outcomes
+-- The bytes of given fields
+pub mod Writer
+-- What is promised beside the contracts
+pub mod Demands

@@ -1,0 +1,90 @@
+use mathlib.Core.Path.{_≡_}
+use Prim.Native.Nat.{ℕ, _-_, _≤_}
+use lib.ListN.{length}
+use borrow.Author.Needs.{needs}
+use native.Mathlib.Omega.{arith}
+use Rattle.message_samples.proofs.acceptor.Statement.{statement}
+use Rattle.message_samples.proofs.acceptor.Tie as tie
+use Rattle.message_samples.proofs.acceptor.Reads as reads
+use Rattle.message_samples.proofs.acceptor.Lts as lts
+
+abbrev Inv-loop : tie.InvT-loop
+Inv-loop marker at count n m₀ k₀ m k = (k ≤ n) × (length m ≡ 4300)
+
+abbrev μ-loop : tie.MeasureT-loop
+μ-loop marker at count n m₀ k₀ m k = n - k
+
+array-write-m : tie.Need-array-write-m Inv-loop μ-loop
+array-write-m c = search needs
+
+array-write-m-2 : tie.Need-array-write-m-2 Inv-loop μ-loop
+array-write-m-2 c = search needs
+
+array-write-m-3 : tie.Need-array-write-m-3 Inv-loop μ-loop
+array-write-m-3 c = search needs
+
+array-write-m-4 : tie.Need-array-write-m-4 Inv-loop μ-loop
+array-write-m-4 c = search needs
+
+array-write-m-5 : tie.Need-array-write-m-5 Inv-loop μ-loop
+array-write-m-5 c = search needs
+
+array-write-m-6 : tie.Need-array-write-m-6 Inv-loop μ-loop
+array-write-m-6 c = search needs
+
+loop-holds : tie.Need-loop-holds Inv-loop μ-loop
+loop-holds c = search needs
+
+add-m : tie.Need-add-m Inv-loop μ-loop
+add-m c = search needs
+
+cast-m : tie.Need-cast-m Inv-loop μ-loop
+cast-m c = search needs
+
+add-m-2 : tie.Need-add-m-2 Inv-loop μ-loop
+add-m-2 c = search needs
+
+mul-m : tie.Need-mul-m Inv-loop μ-loop
+mul-m c = search needs
+
+add-m-3 : tie.Need-add-m-3 Inv-loop μ-loop
+add-m-3 c = search needs
+
+array-write-m-7 : tie.Need-array-write-m-7 Inv-loop μ-loop
+array-write-m-7 c = search needs
+
+add-k : tie.Need-add-k Inv-loop μ-loop
+add-k c = search needs
+
+loop-less : tie.Need-loop-less Inv-loop μ-loop
+loop-less c = search needs
+
+loop-again : tie.Need-loop-again Inv-loop μ-loop
+loop-again c = search needs
+
+returns : tie.Need-returns Inv-loop μ-loop
+returns c = search needs
+
+pub acceptor-spec : {M : Type 1} → statement M
+acceptor-spec =
+    tie.close
+    (tie.spec
+    Inv-loop
+    μ-loop
+    array-write-m
+    array-write-m-2
+    array-write-m-3
+    array-write-m-4
+    array-write-m-5
+    array-write-m-6
+    loop-holds
+    add-m
+    cast-m
+    add-m-2
+    mul-m
+    add-m-3
+    array-write-m-7
+    add-k
+    loop-less
+    loop-again
+    returns)

@@ -1,0 +1,169 @@
+-- Demand 3, agreement over two lists of calls: the known messages of both last rounds are one lawful set of messages, and every report of
+-- the lists is a report over some of them.
+use mathlib.Core.Path.{_≡_, refl, sym, ap, _∙_}
+use mathlib.Core.Logic.{_⊎_, inl, inr}
+use mathlib.Core.List.{List, _++_, List·Memᴰ·append-cases, Memᴰ·append-left, Memᴰ·append-right}
+use Prim.Native.Nat.{ℕ, _<_}
+use lib.Dec.{not-T}
+use Rattle.base.specs.Tests.{_∈_}
+use Rattle.graph.specs.LearnerGraph.{LearnerGraph}
+use Rattle.graph.specs.Held.{viewOf}
+use Rattle.protocol.specs.Ids.{Id}
+use Rattle.protocol.specs.Message.{Message, valueOf, caughtIn}
+use Rattle.protocol.specs.Report.{Verdict, decided, split}
+use Rattle.protocol.specs.Table.{messages}
+use Rattle.protocol.specs.Theorems.{SoundGraph, Lawful, Entangled, Within}
+use Rattle.protocol.proofs.Agreement.{entangled-turned, entangled-self}
+use Rattle.protocol.proofs.Tables.{messages-out, lawful}
+use Rattle.round.specs.declared.Round.{Round}
+use Rattle.round.specs.declared.Report.the-variants.{Decided, Split}
+use Rattle.round.specs.Held.{graphOf, tableOf, knownPlaces}
+use Rattle.round.specs.Lists.{Call, run, lastRound, accepted, written, reports}
+use Rattle.round.specs.Demands.{IdRule, Starts, SafeEdge, NoCollision, OneValue, AgreementOverLists}
+use Rattle.round.proofs.CallLaws.{CallLaws}
+use Rattle.round.proofs.Reached.{Reached}
+use Rattle.round.proofs.Known.{accepted-places, heard, no-collision, reached-last}
+use Rattle.round.proofs.Equivocation.{Read, heard-read, caught-equivocates}
+use Rattle.round.proofs.Reporting.{Reports, decided-over, split-over, one-value, not-split}
+
+-- ---- messages told apart by their ids, in part of a list
+restricted : {H : List ℕ → Id} {L M : List (List ℕ)} → Within L M → NoCollision H M → NoCollision H L
+restricted inM free m n i j e = free m n (inM m i) (inM n j) e
+
+joined : {L K M : List (List ℕ)} → Within L M → Within K M → Within (L ++ K) M
+joined {L} {K} {M} f g m i = step (List·Memᴰ·append-cases L i)
+  where
+    step : (m ∈ L) ⊎ (m ∈ K) → m ∈ M
+    step (inl j) = f m j
+    step (inr j) = g m j
+
+module _ (laws : CallLaws) (H : List ℕ → Id) (rule : IdRule H) (file : List ℕ) (house bay ownA ownB : ℕ) (rA rB : Round)
+    (startsA : Starts file house bay ownA rA) (startsB : Starts file house bay ownB rB) (a b : ℕ) (la : a < rA .graph .learners) (lb : b < rA .graph .learners) (lA lB : List Call)
+    (edge : SafeEdge (graphOf rA) (accepted (run H rA lA) ++ accepted (run H rB lB)) a b)
+    (free : NoCollision H ((accepted (run H rA lA) ++ accepted (run H rB lB)) ++ (written (run H rA lA) ++ written (run H rB lB)))) where
+  -- what was accepted and written, by A, by B and in all
+  abbrev AA : List (List ℕ)
+  AA = accepted (run H rA lA)
+
+  abbrev WA : List (List ℕ)
+  WA = written (run H rA lA)
+
+  abbrev AB : List (List ℕ)
+  AB = accepted (run H rB lB)
+
+  abbrev WB : List (List ℕ)
+  WB = written (run H rB lB)
+
+  abbrev All : List (List ℕ)
+  All = (AA ++ AB) ++ (WA ++ WB)
+
+  inAA : Within AA All
+  inAA m i = Memᴰ·append-left (WA ++ WB) (Memᴰ·append-left AB i)
+
+  inAB : Within AB All
+  inAB m i = Memᴰ·append-left (WA ++ WB) (Memᴰ·append-right AA i)
+
+  inWA : Within WA All
+  inWA m i = Memᴰ·append-right (AA ++ AB) (Memᴰ·append-left WB i)
+
+  inWB : Within WB All
+  inWB m i = Memᴰ·append-right (AA ++ AB) (Memᴰ·append-right WA i)
+
+  freeA : NoCollision H (AA ++ WA)
+  freeA = restricted (joined inAA inWA) free
+
+  freeB : NoCollision H (AB ++ WB)
+  freeB = restricted (joined inAB inWB) free
+
+  -- the last rounds, and their known messages
+  abbrev endA : Round
+  endA = lastRound H rA lA
+
+  abbrev endB : Round
+  endB = lastRound H rB lB
+
+  reachedA : Reached H AA WA endA
+  reachedA = reached-last laws rule startsA lA .0
+
+  reachedB : Reached H AB WB endB
+  reachedB = reached-last laws rule startsB lB .0
+
+  abbrev M : List Message
+  M = messages (tableOf endA) (knownPlaces endA) ++ messages (tableOf endB) (knownPlaces endB)
+
+  law : Lawful M
+  law = lawful (tableOf endA) (tableOf endB) (knownPlaces endA) (knownPlaces endB) (accepted-places reachedA freeA) (accepted-places reachedB freeB)
+      (no-collision inAA inAA free (heard reachedA freeA) (heard reachedA freeA))
+      (no-collision inAA inAB free (heard reachedA freeA) (heard reachedB freeB))
+      (no-collision inAB inAB free (heard reachedB freeB) (heard reachedB freeB))
+
+  read : (x : Message) → x ∈ M → Read H (AA ++ AB) x
+  read x m = step (List·Memᴰ·append-cases (messages (tableOf endA) (knownPlaces endA)) m)
+    where
+      step : (x ∈ messages (tableOf endA) (knownPlaces endA)) ⊎ (x ∈ messages (tableOf endB) (knownPlaces endB)) → Read H (AA ++ AB) x
+      step (inl i) = let (p, k, e) = messages-out (tableOf endA) (knownPlaces endA) x i in heard-read (λ n j. Memᴰ·append-left AB j) (heard reachedA freeA p k) x e
+      step (inr i) = let (p, k, e) = messages-out (tableOf endB) (knownPlaces endB) x i in heard-read (λ n j. Memᴰ·append-right AA j) (heard reachedB freeB p k) x e
+
+  tied : Entangled (graphOf rA) M a b
+  tied = record {
+    safe = edge .safe;
+    isSafeSet = edge .isSafeSet;
+    honest = λ p l t. not-T (caughtIn M p) (λ c. edge .honest p l t (caught-equivocates M read p c));
+  }
+
+  -- the reports of the lists
+  abbrev InAll : ℕ → Verdict → Type 0
+  InAll c v = Reports (graphOf rA) M c v
+
+  one-graph : graphOf rB ≡ graphOf rA
+  one-graph = ap viewOf (laws .opening file house bay ownB rB startsB .graph ∙ sym (laws .opening file house bay ownA rA startsA .graph))
+
+  inMA : Within (messages (tableOf endA) (knownPlaces endA)) M
+  inMA m i = Memᴰ·append-left (messages (tableOf endB) (knownPlaces endB)) i
+
+  inMB : Within (messages (tableOf endB) (knownPlaces endB)) M
+  inMB m i = Memᴰ·append-right (messages (tableOf endA) (knownPlaces endA)) i
+
+  either-decided : (x : ℕ) → Decided x ∈ reports a (run H rA lA) ++ reports b (run H rB lB) → InAll a (decided x) ⊎ InAll b (decided x)
+  either-decided x i = step (List·Memᴰ·append-cases (reports a (run H rA lA)) i)
+    where
+      step : (Decided x ∈ reports a (run H rA lA)) ⊎ (Decided x ∈ reports b (run H rB lB)) → InAll a (decided x) ⊎ InAll b (decided x)
+      step (inl j) = inl (decided-over laws rule startsA lA a (graphOf rA) refl M inMA x j)
+      step (inr j) = inr (decided-over laws rule startsB lB b (graphOf rA) one-graph M inMB x j)
+
+  either-split : (x y : ℕ) → Split x y ∈ reports a (run H rA lA) ++ reports b (run H rB lB) → InAll a (split x y) ⊎ InAll b (split x y)
+  either-split x y i = step (List·Memᴰ·append-cases (reports a (run H rA lA)) i)
+    where
+      step : (Split x y ∈ reports a (run H rA lA)) ⊎ (Split x y ∈ reports b (run H rB lB)) → InAll a (split x y) ⊎ InAll b (split x y)
+      step (inl j) = inl (split-over laws rule startsA lA a (graphOf rA) refl M inMA x y j)
+      step (inr j) = inr (split-over laws rule startsB lB b (graphOf rA) one-graph M inMB x y j)
+
+  one-value-over-lists : OneValue (reports a (run H rA lA) ++ reports b (run H rB lB))
+  one-value-over-lists = record {
+    values = λ x y i j. values x y (either-decided x i) (either-decided y j);
+    whole = λ x y i. whole x y (either-split x y i);
+  }
+    where
+      G : LearnerGraph
+      G = graphOf rA
+
+      sound : SoundGraph G
+      sound = laws .opening file house bay ownA rA startsA .sound
+
+      turned : Entangled G M b a
+      turned = entangled-turned G sound M a b tied
+
+      values : (x y : ℕ) → InAll a (decided x) ⊎ InAll b (decided x) → InAll a (decided y) ⊎ InAll b (decided y) → valueOf x ≡ valueOf y
+      values x y (inl i) (inl j) = one-value G sound M law a a la la (entangled-self G sound M a b la lb tied) x y i j
+      values x y (inl i) (inr j) = one-value G sound M law a b la lb tied x y i j
+      values x y (inr i) (inl j) = one-value G sound M law b a lb la turned x y i j
+      values x y (inr i) (inr j) = one-value G sound M law b b lb lb (entangled-self G sound M b a lb la turned) x y i j
+
+      whole : (x y : ℕ) → InAll a (split x y) ⊎ InAll b (split x y) → ⊥
+      whole x y (inl i) = not-split G sound M law a b la lb tied x y i
+      whole x y (inr i) = not-split G sound M law b a lb la turned x y i
+
+-- AGREEMENT OVER LISTS
+pub agreementOverLists : CallLaws → AgreementOverLists
+agreementOverLists laws H rule file house bay ownA ownB rA rB startsA startsB a b la lb lA lB edge free =
+    one-value-over-lists laws H rule file house bay ownA ownB rA rB startsA startsB a b la lb lA lB edge free

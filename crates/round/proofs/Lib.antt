@@ -1,0 +1,84 @@
+-- ---- one delivery
+-- The law of one delivery, as a statement
+pub mod Step
+-- Parts of lists, and lists with something put in
+pub mod Parts
+-- The place that an id names
+pub mod Named
+-- Row 17's tests of a round in words
+pub mod Fitting
+-- A record put behind the held ones
+pub mod Holding
+pub mod Growing
+-- Marking a place as known, recent and last sent
+pub mod Marking
+-- The records of a round's table
+pub mod Records
+-- Ids in ascending order, one behind the other
+pub mod Order
+pub mod Joined
+-- What an acceptor sends
+pub mod Chosen
+pub mod Written
+pub mod Sending
+-- What joins recent, and last sent in it
+pub mod Recent
+pub mod Answering
+-- A message that no row turns down
+pub mod Passing
+pub mod Arriving
+pub mod Accepting
+pub mod Entering
+-- The law of one delivery
+pub mod OneDelivery
+-- Demand 1 on each delivery
+pub mod OneCall
+-- A round that was just opened
+pub mod GraphRead
+pub mod GraphFits
+pub mod JustOpened
+-- ---- lists of calls
+-- The laws of single calls that lists of calls stand on
+pub mod CallLaws
+-- The place that an id names, on tables
+pub mod Canonical
+-- What calls keep true of a table and its known places
+pub mod Kept
+-- A record joins the table
+pub mod Joining
+-- Rounds reached by calls: the invariant, and how a round grows
+pub mod Reached
+-- The invariant along a list of calls, and the round of each report
+pub mod Lists
+-- Demand 3: the chain of replies
+pub mod Chain
+-- Last sent is in recent all along a list, so each reply refers to the message that it names; and recent holds no proposal
+pub mod Chained
+-- The known places of a round reached by calls; such a round passes 17
+pub mod Known
+-- What is read in the bytes of a record, and what a report says
+pub mod Bytes
+-- Theorem 21 over a list
+pub mod Validity
+-- An acceptor that is caught among accepted messages equivocates
+pub mod Equivocation
+-- Every report of a list is a report over messages known at its end
+pub mod Reporting
+-- Demand 3: agreement over two lists
+pub mod Agreement
+-- The demands over lists of calls, with nothing left open
+pub mod Demands
+-- ---- what the contract must shut out
+-- A round that turns every message down
+pub mod Admitted
+-- A 16 with fewer held than row 16 names
+pub mod Full
+-- A delivery that stores nothing
+pub mod Storing
+-- An acceptor that is mute after its first reply
+pub mod Answered
+-- A report that is always undecided, an invented reply length
+pub mod ShutOut
+-- ---- the papers' examples
+-- The starred cases of document 01
+pub mod Cases

@@ -1,0 +1,63 @@
+-- THE LAW OF ONE DELIVERY: what a delivery that is not refused does.
+use mathlib.Core.Path.{_≡_, refl, sym, subst}
+use mathlib.Core.Logic.{_≢_}
+use mathlib.Core.Bool.{Bool, true, false, not, _||_}
+use mathlib.Core.Option.{Option, none, some}
+use mathlib.Core.List.{List}
+use Prim.Native.Nat.{ℕ}
+use lib.Dec.{T, ltb}
+use lib.ListN.{length}
+use Rattle.base.specs.Tests.{pick}
+use Rattle.base.specs.declared.refusal.Refusal.{Refusal}
+use Rattle.base.specs.declared.refusal.Refusal.the-variants.{Argument}
+use Rattle.message.specs.Reader.{reading}
+use Rattle.message.specs.declared.Reading.{Reading}
+use Rattle.message.specs.declared.Reading.the-variants.{OfProposer, OfAcceptor, Refused}
+use Rattle.protocol.specs.Ids.{Id}
+use Rattle.protocol.specs.Table.{Held, offers}
+use Rattle.round.specs.declared.Round.{Round}
+use Rattle.round.specs.declared.Outcome.the-variants as outcome
+use Rattle.round.specs.Limits.{replyLen}
+use Rattle.round.specs.Held.{placeOf}
+use Rattle.round.specs.Handed.{fits}
+use Rattle.round.specs.Rows.{referenceIds, previousId, voteRecord, messageOf, proposalRows, acceptorRows, firstOf}
+use Rattle.round.specs.Delivery.{Result, refused, decidedBy, taken, delivery}
+use Rattle.round.specs.Demands.{IdRule, Typed}
+use Rattle.round.proofs.Step.{StepLaw}
+use Rattle.round.proofs.Fitting.{Fitting, fits-out}
+use Rattle.round.proofs.Accepting.{Accepts, proposal-accepts, acceptor-accepts}
+use Rattle.round.proofs.Entering.{Tells, enters}
+
+-- the answer is no refusal
+abbrev pub Kept : Result → Type 0
+Kept d = (e : Refusal) → d .outcome ≢ outcome.Refused e
+
+-- past row 17
+pub past-argument : (r : Round) (fit short : Bool) (d : Result) → Kept (pick (not fit || short) (refused r Argument) d) → T fit × (pick (not fit || short) (refused r Argument) d ≡ d)
+past-argument r true true d k = absurd (k Argument refl)
+past-argument r true false d k = (tt, refl)
+past-argument r false short d k = absurd (k Argument refl)
+
+module _ (H : List ℕ → Id) (rule : IdRule H) (r : Round) (typed : Typed r) (fit : Fitting r) (b : List ℕ) where
+  decides : (h : Held) (o : Option Refusal) → (o ≡ none → Accepts H r b h) → Kept (decidedBy H r (H b) h o) → Tells H r b (decidedBy H r (H b) h o)
+  decides h none f k = enters H rule r typed fit b h (f refl) (placeOf r (H b)) refl
+  decides h (some e) f k = absurd (k e refl)
+
+  takes : (x : Reading) → reading b ≡ x → Kept (taken H r b x) → Tells H r b (taken H r b x)
+  takes (Refused e) q k = absurd (k e refl)
+  takes (OfProposer m) q k = decides (offers (H b) (m .proposer) (m .ballot)) (firstOf (proposalRows r (H b) m)) (proposal-accepts H rule r (fit .most) b m q) k
+  takes (OfAcceptor m) q k =
+      let h = voteRecord r (H b) (m .signer) (previousId b m) (referenceIds b m) in
+      decides h (firstOf (acceptorRows r (H b) m (previousId b m) (referenceIds b m) (messageOf r h))) (acceptor-accepts H rule r (fit .most) b m q) k
+
+  pub taken-tells : Kept (taken H r b (reading b)) → Tells H r b (taken H r b (reading b))
+  taken-tells = takes (reading b) refl
+
+pub tells : (H : List ℕ → Id) → IdRule H → (r : Round) → Typed r → (b buffer : List ℕ) → Kept (delivery H r b buffer) → Tells H r b (delivery H r b buffer)
+unfolding delivery
+tells H rule r typed b buffer k =
+    let (f, e) = past-argument r (fits r) (ltb (length buffer) replyLen) (taken H r b (reading b)) k in
+    subst (λ (d : Result). Tells H r b d) (sym e) (taken-tells H rule r typed (fits-out r f) b (subst Kept e k))
+
+pub step : StepLaw
+step H rule r typed b buffer k = tells H rule r typed b buffer k .step

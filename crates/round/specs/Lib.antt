@@ -1,0 +1,24 @@
+-- The numbers that a round is built with
+pub mod Limits
+-- What a round holds: the table of its messages, the known ones, the recent ones
+pub mod Held
+-- Row 17: what is asked of a round handed in
+pub mod Handed
+-- Opening a round
+pub mod Opening
+-- Rows 8 to 16, and their order
+pub mod Rows
+-- What an acceptor sends
+pub mod Reply
+-- A delivery
+pub mod Delivery
+-- The report for a learner
+pub mod Report
+-- Lists of calls: what is accepted, written and reported in one
+pub mod Lists
+-- What the owner asked for, as propositions
+pub mod Demands
+-- What the contract must shut out, as propositions
+pub mod ShutOut
+-- The starred cases of document 01, one table
+pub mod Cases

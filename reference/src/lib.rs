@@ -1,0 +1,15 @@
+//! Models of the consensus library, written from FIPS 180-4, the report of
+//! 4 December 2024 (source document 001) and document 01 alone. The program
+//! beside them compares the library with these models.
+
+pub mod damage;
+pub mod fields;
+pub mod graph;
+pub mod library;
+pub mod meaning;
+pub mod message;
+pub mod random;
+pub mod refusal;
+pub mod round;
+pub mod sha256;
+pub mod sites;

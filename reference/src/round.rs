@@ -1,0 +1,301 @@
+//! Document 01, "A delivery" and "The report for a learner": one decision for
+//! one house and bay.
+
+use crate::graph::{self, LearnerGraph, MOST_ACCEPTORS, MOST_LEARNERS, MOST_MASKS};
+use crate::meaning::{Content, Held, History, Place};
+use crate::message::{self, Body, Message, LONGEST, MOST_REFERENCES};
+use crate::refusal::Refusal;
+use crate::sha256::{sha256, Id};
+
+/// "It holds up to 128 messages."
+pub const CAPACITY: usize = 128;
+
+#[derive(Clone)]
+pub struct Round {
+    pub house: u16,
+    pub bay: u16,
+    /// The own acceptor number, or none in a listening round.
+    pub own: Option<u8>,
+    pub history: History,
+    /// For each place: known, or awaiting return.
+    pub known: Vec<bool>,
+    /// For each place: whether it is in recent.
+    pub recent: Vec<bool>,
+    pub last_sent: Option<Place>,
+}
+
+#[derive(Clone, Copy, Debug, PartialEq, Eq)]
+pub enum Report {
+    Undecided,
+    /// The least ballot that decides.
+    Decided(u64),
+    /// The least ballot that decides, and the least of another value.
+    Split(u64, u64),
+}
+
+impl Report {
+    /// As the C interface shows it, in 17 bytes.
+    pub fn bytes(self) -> Vec<u8> {
+        let (case, first, second) = match self {
+            Report::Undecided => (0, 0, 0),
+            Report::Decided(ballot) => (1, ballot, 0),
+            Report::Split(ballot, other) => (2, ballot, other),
+        };
+        let mut bytes = vec![case];
+        bytes.extend(first.to_be_bytes());
+        bytes.extend(second.to_be_bytes());
+        bytes
+    }
+}
+
+/// "A round opens from a graph file (checked first; 17 comes after 7), a house,
+/// a bay, and an acceptor number or none (listening only)."
+pub fn open(file: &[u8], house: u16, bay: u16, own: Option<u8>) -> Result<Round, Refusal> {
+    let graph = graph::read(file)?;
+    if own.is_some_and(|number| usize::from(number) >= graph.acceptors) {
+        return Err(Refusal::Argument);
+    }
+    Ok(Round {
+        house,
+        bay,
+        own,
+        history: History::new(graph),
+        known: Vec::new(),
+        recent: Vec::new(),
+        last_sent: None,
+    })
+}
+
+/// A round as it is handed in: bytes that no opening need have led to. The
+/// previous message of a held one is a place here.
+#[derive(Clone)]
+pub struct HandedIn {
+    pub graph: LearnerGraph,
+    pub house: u16,
+    pub bay: u16,
+    pub own: Option<u8>,
+    pub records: Vec<Record>,
+    pub last_sent: Option<Place>,
+}
+
+#[derive(Clone)]
+pub struct Record {
+    pub id: Id,
+    pub signer: u8,
+    pub known: bool,
+    pub recent: bool,
+    pub body: RecordBody,
+}
+
+#[derive(Clone)]
+pub enum RecordBody {
+    Proposal { ballot: u64 },
+    Acceptor { previous: Option<Place>, references: Vec<Place> },
+}
+
+/// Row 17: "a round handed in with a count or place outside its table, a
+/// reference not to an earlier place, or an acceptor message with none". All else
+/// is taken as it is.
+pub fn take(handed_in: HandedIn) -> Result<Round, Refusal> {
+    let HandedIn { graph, house, bay, own, records, last_sent } = handed_in;
+    let within = (1..=MOST_ACCEPTORS).contains(&graph.acceptors)
+        && (1..=MOST_LEARNERS).contains(&graph.learners())
+        && graph.quorums.iter().chain(&graph.edges).all(|list| list.len() <= MOST_MASKS)
+        && own.is_none_or(|number| usize::from(number) < graph.acceptors)
+        && records.len() <= CAPACITY
+        && last_sent.is_none_or(|place| place < records.len());
+    if !within {
+        return Err(Refusal::Argument);
+    }
+    let ids: Vec<Id> = records.iter().map(|record| record.id).collect();
+    let mut history = History::new(graph);
+    let (mut known, mut recent) = (Vec::new(), Vec::new());
+    for (place, record) in records.into_iter().enumerate() {
+        let content = match record.body {
+            RecordBody::Proposal { ballot } => Content::Proposal { ballot },
+            RecordBody::Acceptor { previous, references } => {
+                let counted = (1..=MOST_REFERENCES).contains(&references.len());
+                let earlier = references.iter().all(|reference| *reference < place);
+                let held = previous.is_none_or(|previous| previous < ids.len());
+                if !(counted && earlier && held) {
+                    return Err(Refusal::Argument);
+                }
+                Content::Acceptor { previous: previous.map(|previous| ids[previous]), references }
+            }
+        };
+        known.push(record.known);
+        recent.push(record.recent);
+        history.push(Held { id: record.id, signer: record.signer, content });
+    }
+    Ok(Round { house, bay, own, history, known, recent, last_sent })
+}
+
+impl Round {
+    pub fn held(&self) -> usize {
+        self.history.len()
+    }
+
+    /// "Messages are told apart by id; an id held twice names the lower place."
+    pub fn place_of(&self, id: &Id) -> Option<Place> {
+        self.history.messages().iter().position(|held| held.id == *id)
+    }
+
+    fn known_place(&self, id: &Id) -> Option<Place> {
+        self.place_of(id).filter(|place| self.known[*place])
+    }
+
+    /// Delivers message bytes, with room for `room` bytes of reply.
+    pub fn deliver(&mut self, bytes: &[u8], room: usize) -> Result<Option<Vec<u8>>, Refusal> {
+        if room < LONGEST {
+            return Err(Refusal::Argument);
+        }
+        let message = message::read(bytes)?;
+        let (candidate, awaiting) = self.admit(&message, sha256(bytes))?;
+        let m = self.history.push(candidate);
+        let accepted = self.check_meaning(m).and_then(|()| self.check_capacity(m, awaiting));
+        if accepted.is_err() || awaiting.is_some() {
+            self.history.pop();
+        }
+        accepted?;
+        let place = match awaiting {
+            Some(place) => place,
+            None => {
+                self.known.push(false);
+                self.recent.push(false);
+                m
+            }
+        };
+        self.known[place] = true;
+        Ok(self.own.and_then(|own| self.answer(own, place)))
+    }
+
+    /// Rows 8 to 12: the message with places for its ids, and its own place if it
+    /// is an own message returning.
+    fn admit(&self, message: &Message, id: Id) -> Result<(Held, Option<Place>), Refusal> {
+        if (message.house, message.bay) != (self.house, self.bay) {
+            return Err(Refusal::OtherBay);
+        }
+        let from_acceptor = matches!(message.body, Body::Acceptor { .. });
+        if from_acceptor && usize::from(message.signer) >= self.history.graph.acceptors {
+            return Err(Refusal::Signer);
+        }
+        let awaiting = self.place_of(&id);
+        if awaiting.is_some_and(|place| self.known[place]) {
+            return Err(Refusal::Known);
+        }
+        let content = match &message.body {
+            Body::Proposal { ballot } => Content::Proposal { ballot: *ballot },
+            Body::Acceptor { previous, references } => {
+                let places: Option<Vec<Place>> =
+                    references.iter().map(|id| self.known_place(id)).collect();
+                let places = places.ok_or(Refusal::Reference)?;
+                self.check_previous(message.signer, previous, references)?;
+                Content::Acceptor { previous: *previous, references: places }
+            }
+        };
+        Ok((Held { id, signer: message.signer, content }, awaiting))
+    }
+
+    /// Row 12: "previous message not referred to, a proposal, or of another signer".
+    fn check_previous(
+        &self,
+        signer: u8,
+        previous: &Option<Id>,
+        references: &[Id],
+    ) -> Result<(), Refusal> {
+        let Some(id) = previous else {
+            return Ok(());
+        };
+        let place = self.place_of(id).filter(|_| references.contains(id));
+        let place = place.ok_or(Refusal::Previous)?;
+        if self.history.is_proposal(place) || self.history.signer(place) != signer {
+            return Err(Refusal::Previous);
+        }
+        Ok(())
+    }
+
+    /// Rows 13 to 15, on what the message means.
+    fn check_meaning(&self, m: Place) -> Result<(), Refusal> {
+        if !self.history.has_proposal(m) {
+            return Err(Refusal::NoProposal);
+        }
+        if self.history.is_1b(m) && !self.history.is_well_formed_1b(m) {
+            return Err(Refusal::Malformed1b);
+        }
+        if self.history.is_2a(m) && !self.history.is_well_formed_2a(m) {
+            return Err(Refusal::Malformed2a);
+        }
+        Ok(())
+    }
+
+    /// Row 16: "128 held; for an acceptor 127, or 128 for its own message returning".
+    fn check_capacity(&self, held: usize, awaiting: Option<Place>) -> Result<(), Refusal> {
+        let reply_may_follow = self.own.is_some() && awaiting.is_none();
+        let most = if reply_may_follow { CAPACITY - 1 } else { CAPACITY };
+        if held >= most {
+            return Err(Refusal::Full);
+        }
+        Ok(())
+    }
+
+    /// "An acceptor then forms z with its last sent message as previous and the
+    /// references recent ∪ {m}." Figure 1, lines 14 to 20.
+    fn answer(&mut self, own: u8, m: Place) -> Option<Vec<u8>> {
+        let id_at = |place: Place| self.history.messages()[place].id;
+        let previous = self.last_sent.map(id_at);
+        let chosen = (0..self.held()).filter(|place| *place == m || self.recent[*place]);
+        let mut references: Vec<Id> = chosen.map(id_at).collect();
+        references.sort();
+        references.dedup();
+        let content = Content::Acceptor {
+            previous,
+            references: references.iter().filter_map(|id| self.place_of(id)).collect(),
+        };
+        let body = Body::Acceptor { previous, references };
+        let reply =
+            message::write(&Message { house: self.house, bay: self.bay, signer: own, body });
+        let z = self.history.push(Held { id: sha256(&reply), signer: own, content });
+        let well_formed = if self.history.is_1b(z) {
+            self.history.is_well_formed_1b(z)
+        } else {
+            self.history.is_well_formed_2a(z)
+        };
+        if well_formed {
+            // Held as awaiting return.
+            self.known.push(false);
+            self.last_sent = Some(z);
+            self.recent.fill(false);
+            self.recent.push(true);
+            return Some(reply);
+        }
+        self.history.pop();
+        if !self.history.is_proposal(m) {
+            self.recent[m] = true;
+        }
+        None
+    }
+
+    /// "A ballot decides for a if the signers of known 2as with that ballot and
+    /// a in lrns are a quorum of a."
+    pub fn report(&self, learner: u8) -> Result<Report, Refusal> {
+        let a = usize::from(learner);
+        if a >= self.history.graph.learners() {
+            return Err(Refusal::Argument);
+        }
+        let history = &self.history;
+        let votes: Vec<Place> = (0..self.held())
+            .filter(|m| self.known[*m] && history.is_2a(*m) && history.in_lrns(a, *m))
+            .collect();
+        let decides = |ballot: u64| {
+            let with = votes.iter().copied().filter(|m| history.ballot(*m) == ballot);
+            history.graph.is_quorum(a, history.signers(with))
+        };
+        let ballots: Vec<u64> =
+            votes.iter().map(|m| history.ballot(*m)).filter(|ballot| decides(*ballot)).collect();
+        let Some(least) = ballots.iter().copied().min() else {
+            return Ok(Report::Undecided);
+        };
+        let other = ballots.iter().copied().filter(|ballot| *ballot as u32 != least as u32).min();
+        Ok(other.map_or(Report::Decided(least), |other| Report::Split(least, other)))
+    }
+}
