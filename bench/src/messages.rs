@@ -4,6 +4,7 @@
 use crate::contest;
 use reference::library;
 use reference::message::{self, Body, Message, LONGEST};
+use reference::sha256::sha256;
 use std::hint::black_box;
 
 const FIELDS_LEN: usize = 48;
@@ -103,25 +104,38 @@ fn write_proposal(
     0
 }
 
-/// A message with a previous id and 128 references that differ in their last bytes only.
-fn longest() -> Vec<u8> {
-    let references = (0..128)
+/// A message with a previous id and 128 references.
+fn longest(references: Vec<[u8; 32]>) -> Vec<u8> {
+    let body = Body::Acceptor { previous: Some([0x33; 32]), references };
+    let bytes = message::write(&Message { house: 1, bay: 12, signer: 3, body });
+    assert_eq!(bytes.len(), LONGEST);
+    bytes
+}
+
+/// Digests, as ids are: two mostly differ in the first byte.
+fn digests() -> Vec<[u8; 32]> {
+    let mut ids: Vec<[u8; 32]> = (0..128u8).map(|n| sha256(&[n])).collect();
+    ids.sort_unstable();
+    ids
+}
+
+/// The worst case: ids that differ in the last byte only.
+fn alike() -> Vec<[u8; 32]> {
+    (0..128)
         .map(|last| {
             let mut id = [0x5a; 32];
             id[31] = last;
             id
         })
-        .collect();
-    let body = Body::Acceptor { previous: Some([0x33; 32]), references };
-    message::write(&Message { house: 1, bay: 12, signer: 3, body })
+        .collect()
 }
 
-fn reading(bytes: &[u8]) {
+fn reading(ids: &str, bytes: &[u8]) {
     let (mut fields, mut twin) = ([0; FIELDS_LEN], [0; FIELDS_LEN]);
     let answers = (library::read_message(bytes, &mut fields), read_message(bytes, &mut twin));
     assert_eq!((answers, fields), ((0, 0), twin), "the contestants differ");
     contest::run(
-        &format!("reading {} bytes", bytes.len()),
+        &format!("reading {} bytes, {ids}", bytes.len()),
         || {
             black_box(library::read_message(black_box(bytes), &mut fields));
         },
@@ -176,9 +190,9 @@ fn writing() {
 }
 
 pub fn run() {
-    let bytes = longest();
-    assert_eq!(bytes.len(), LONGEST);
-    reading(&bytes);
+    let bytes = longest(digests());
+    reading("ids are digests", &bytes);
+    reading("ids differ in the last byte only", &longest(alike()));
     last_reference(&bytes);
     writing();
 }

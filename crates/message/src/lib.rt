@@ -4,7 +4,7 @@
 
 pub mod ballot;
 pub mod layout;
-mod order;
+pub mod order;
 mod reader;
 mod writer;
 

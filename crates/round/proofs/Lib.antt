@@ -68,6 +68,8 @@ pub mod Reporting
 pub mod Agreement
 -- The demands over lists of calls, with nothing left open
 pub mod Demands
+-- SHA-256 is an id rule
+pub mod Sha256
 -- ---- what the contract must shut out
 -- A round that turns every message down
 pub mod Admitted

@@ -1,0 +1,44 @@
+use mathlib.Core.Path.{_≡_, refl, ap, ap₂, sym, _∙_}
+use mathlib.Core.Bool.{Bool, true, false, not, _&&_, _||_}
+use Prim.Native.Nat.{ℕ, suc, _≤_, _<_, _-_, _+_, _*_, _/_, _^_, max}
+use lib.ListN.{length, getD, take}
+use lib.Dec.{eqb, ltb}
+use Rattle.base.specs.Tests.{pick, any, below}
+use Rattle.base.specs.Sets.{has}
+use Rattle.derive.specs.PlaceSets.{inSet, meets}
+use borrow.Author.Needs.{needs}
+use native.Mathlib.Omega.{arith}
+use Rattle.derive.proofs.beneath.is_crowding.Statement.{statement}
+use Rattle.derive.proofs.beneath.is_crowding.Tie as tie
+use Rattle.derive.proofs.beneath.is_crowding.Reads as reads
+use Rattle.derive.proofs.beneath.is_crowding.Lts as lts
+use Rattle.derive.proofs.sets.has_place.Reads as has-place-reads
+
+has-place-requires : tie.Need-has-place-requires
+has-place-requires c κs = search needs
+
+shared-slice-read-result : tie.Need-shared-slice-read-result
+shared-slice-read-result c = search needs
+
+mul-result : tie.Need-mul-result
+mul-result c = search needs
+
+shared-slice-read-result-2 : tie.Need-shared-slice-read-result-2
+shared-slice-read-result-2 c = search needs
+
+shared-slice-read-result-3 : tie.Need-shared-slice-read-result-3
+shared-slice-read-result-3 c = search needs
+
+returns : tie.Need-returns
+returns c = cc
+
+pub is-crowding-spec : {M : Type 1} → statement M
+is-crowding-spec =
+    tie.close
+    (tie.spec
+    has-place-requires
+    shared-slice-read-result
+    mul-result
+    shared-slice-read-result-2
+    shared-slice-read-result-3
+    returns)

@@ -1,0 +1,196 @@
+use mathlib.Core.Path.{_≡_, refl, ap, ap₂, sym, _∙_}
+use mathlib.Core.Bool.{Bool, true, false, not, _&&_, _||_}
+use Prim.Native.Nat.{ℕ, suc, _≤_, _<_, _-_, _+_, _*_, _/_, _^_, max}
+use lib.ListN.{length, getD, take}
+use lib.Dec.{eqb, ltb}
+use Rattle.base.specs.Tests.{pick, any, below}
+use Rattle.base.specs.Sets.{has}
+use Rattle.derive.specs.PlaceSets.{inSet, meets}
+use mathlib.Core.Path.{subst}
+use lib.ListN.{length-set}
+use Rattle.graph.specs.Held.{heldGraph}
+use Rattle.protocol.specs.Table.{tabulate}
+use Rattle.derive.specs.Arrays.{Whole}
+use Rattle.derive.specs.Records.{tableIn}
+use Rattle.derive.specs.Notes.{Known}
+use Rattle.derive.proofs.Growing.{known-none}
+use Rattle.derive.proofs.Passing.{pass-more}
+use borrow.Author.Needs.{needs}
+use native.Mathlib.Omega.{arith}
+use Rattle.derive.proofs.pass.work_out.Statement.{statement}
+use Rattle.derive.proofs.pass.work_out.Tie as tie
+use Rattle.derive.proofs.pass.work_out.Reads as reads
+use Rattle.derive.proofs.pass.work_out.Lts as lts
+use Rattle.derive.proofs.names.names_of.Reads as names-of-reads
+use Rattle.derive.proofs.pass.note_held.Reads as note-held-reads
+
+abbrev Inv-loop : tie.InvT-loop
+Inv-loop lists masks ids kinds signers ballots previous counts references acceptors l n names low₀ high₀ forklow₀ forkhigh₀ tops₀ learners₀ fresh₀ forms₀ p₀ low high forklow forkhigh tops learners fresh forms p = (p ≤ n) × ((Whole low × (Whole high × (Whole forklow × (Whole forkhigh × (Whole tops × (Whole learners × (Whole fresh × Whole forms))))))) × Known (heldGraph acceptors l lists masks) (tableIn ids kinds signers ballots previous counts references p) kinds signers low high forklow forkhigh tops learners fresh forms)
+
+abbrev μ-loop : tie.MeasureT-loop
+μ-loop lists masks ids kinds signers ballots previous counts references acceptors l n names low₀ high₀ forklow₀ forkhigh₀ tops₀ learners₀ fresh₀ forms₀ p₀ low high forklow forkhigh tops learners fresh forms p = n - p
+
+names-of-requires : tie.Need-names-of-requires Inv-loop μ-loop
+names-of-requires c κs = let a = c .before .before .before .before .before .before .before .before .before .args in let pre = c .before .before .before .before .before .before .before .before .before .pre in let fit = pre .1 .1 .1 .0 in let lens = pre .1 .1 .1 .1 in (fit .held, lens .idsFit)
+
+loop-holds : tie.Need-loop-holds Inv-loop μ-loop
+unfolding tabulate
+loop-holds c = let a = c .before .before .before .before .before .before .before .before .before .before .args in let pre = c .before .before .before .before .before .before .before .before .before .before .pre in let fit = pre .1 .1 .1 .0 in let lens = pre .1 .1 .1 .1 in (omega arith, ((refl, (refl, (refl, (refl, (refl, (refl, (refl, refl))))))), known-none (heldGraph (a .acceptors) (a .l) (a .lists .now) (a .masks .now)) (a .kinds .now) (a .signers .now) _ _ _ _ _ _ _ _))
+
+slice-aggregate-note-held : tie.Need-slice-aggregate-note-held Inv-loop μ-loop
+slice-aggregate-note-held c = search needs
+
+slice-aggregate-note-held-2 : tie.Need-slice-aggregate-note-held-2 Inv-loop μ-loop
+slice-aggregate-note-held-2 c = search needs
+
+slice-aggregate-note-held-3 : tie.Need-slice-aggregate-note-held-3 Inv-loop μ-loop
+slice-aggregate-note-held-3 c = search needs
+
+slice-aggregate-note-held-4 : tie.Need-slice-aggregate-note-held-4 Inv-loop μ-loop
+slice-aggregate-note-held-4 c = search needs
+
+slice-aggregate-note-held-5 : tie.Need-slice-aggregate-note-held-5 Inv-loop μ-loop
+slice-aggregate-note-held-5 c = search needs
+
+slice-aggregate-note-held-6 : tie.Need-slice-aggregate-note-held-6 Inv-loop μ-loop
+slice-aggregate-note-held-6 c = search needs
+
+slice-aggregate-note-held-7 : tie.Need-slice-aggregate-note-held-7 Inv-loop μ-loop
+slice-aggregate-note-held-7 c = search needs
+
+slice-aggregate-note-held-8 : tie.Need-slice-aggregate-note-held-8 Inv-loop μ-loop
+slice-aggregate-note-held-8 c = search needs
+
+slice-aggregate-note-held-9 : tie.Need-slice-aggregate-note-held-9 Inv-loop μ-loop
+slice-aggregate-note-held-9 c = search needs
+
+note-held-requires : tie.Need-note-held-requires Inv-loop μ-loop
+note-held-requires c κs = let a = c .before .before .before .before .before .before .before .before .before .before .before .before .before .before .before .before .before .before .before .before .before .args in let pre = c .before .before .before .before .before .before .before .before .before .before .before .before .before .before .before .before .before .before .before .before .before .pre in let fit = pre .1 .1 .1 .0 in let lens = pre .1 .1 .1 .1 in let w = c .before .before .before .before .before .before .before .before .before .before .loop .inv .1 .0 in (
+  c .before .before .before .before .before .before .before .before .before .loop-test .taken,
+  (
+    fit,
+    (
+      lens .ballotsFit,
+      (
+        lens .countsFit,
+        (
+          lens .referencesFit,
+          record {
+            acceptorsFit = pre .0;
+            learnersFit = pre .1 .0;
+            heldFit = fit .held;
+            sized = pre .1 .1 .0;
+            kindsFit = lens .kindsFit;
+            signersFit = lens .signersFit;
+            namesFit = c .before .before .before .before .before .before .before .before .before .before .before .names-of .ensures .0;
+            previousFit = lens .previousFit;
+            lowFit = w .0;
+            highFit = w .1 .0;
+            forkLowFit = w .1 .1 .0;
+            forkHighFit = w .1 .1 .1 .0;
+            topsFit = w .1 .1 .1 .1 .0;
+            learnedFit = w .1 .1 .1 .1 .1 .0;
+            freshFit = w .1 .1 .1 .1 .1 .1 .0;
+            formsFit = w .1 .1 .1 .1 .1 .1 .1;
+            placesFit = λ i. omega arith;
+          },
+        ),
+      ),
+    ),
+  ),
+)
+
+mul-low : tie.Need-mul-low Inv-loop μ-loop
+mul-low c = omega (arith, c .before .before .before .before .before .before .before .before .before .before .before .before .loop-test .taken, c .before .before .before .before .before .before .before .before .before .before .before .before .before .before .before .before .before .before .before .before .before .before .before .before .pre .1 .1 .1 .0 .held)
+
+array-write-low : tie.Need-array-write-low Inv-loop μ-loop
+array-write-low c = omega (arith, c .before .before .before .before .before .before .before .before .before .before .before .before .loop-test .taken, c .before .before .before .before .before .before .before .before .before .before .before .before .before .before .before .before .before .before .before .before .before .before .before .before .pre .1 .1 .1 .0 .held)
+
+mul-high : tie.Need-mul-high Inv-loop μ-loop
+mul-high c = omega (arith, c .before .before .before .before .before .before .before .before .before .before .before .before .loop-test .taken, c .before .before .before .before .before .before .before .before .before .before .before .before .before .before .before .before .before .before .before .before .before .before .before .before .pre .1 .1 .1 .0 .held)
+
+array-write-high : tie.Need-array-write-high Inv-loop μ-loop
+array-write-high c = omega (arith, c .before .before .before .before .before .before .before .before .before .before .before .before .loop-test .taken, c .before .before .before .before .before .before .before .before .before .before .before .before .before .before .before .before .before .before .before .before .before .before .before .before .pre .1 .1 .1 .0 .held)
+
+mul-forklow : tie.Need-mul-forklow Inv-loop μ-loop
+mul-forklow c = omega (arith, c .before .before .before .before .before .before .before .before .before .before .before .before .loop-test .taken, c .before .before .before .before .before .before .before .before .before .before .before .before .before .before .before .before .before .before .before .before .before .before .before .before .pre .1 .1 .1 .0 .held)
+
+array-write-forklow : tie.Need-array-write-forklow Inv-loop μ-loop
+array-write-forklow c = omega (arith, c .before .before .before .before .before .before .before .before .before .before .before .before .loop-test .taken, c .before .before .before .before .before .before .before .before .before .before .before .before .before .before .before .before .before .before .before .before .before .before .before .before .pre .1 .1 .1 .0 .held)
+
+mul-forkhigh : tie.Need-mul-forkhigh Inv-loop μ-loop
+mul-forkhigh c = omega (arith, c .before .before .before .before .before .before .before .before .before .before .before .before .loop-test .taken, c .before .before .before .before .before .before .before .before .before .before .before .before .before .before .before .before .before .before .before .before .before .before .before .before .pre .1 .1 .1 .0 .held)
+
+array-write-forkhigh : tie.Need-array-write-forkhigh Inv-loop μ-loop
+array-write-forkhigh c = omega (arith, c .before .before .before .before .before .before .before .before .before .before .before .before .loop-test .taken, c .before .before .before .before .before .before .before .before .before .before .before .before .before .before .before .before .before .before .before .before .before .before .before .before .pre .1 .1 .1 .0 .held)
+
+mul-tops : tie.Need-mul-tops Inv-loop μ-loop
+mul-tops c = omega (arith, c .before .before .before .before .before .before .before .before .before .before .before .before .loop-test .taken, c .before .before .before .before .before .before .before .before .before .before .before .before .before .before .before .before .before .before .before .before .before .before .before .before .pre .1 .1 .1 .0 .held)
+
+array-write-tops : tie.Need-array-write-tops Inv-loop μ-loop
+array-write-tops c = omega (arith, c .before .before .before .before .before .before .before .before .before .before .before .before .loop-test .taken, c .before .before .before .before .before .before .before .before .before .before .before .before .before .before .before .before .before .before .before .before .before .before .before .before .pre .1 .1 .1 .0 .held)
+
+array-write-learners : tie.Need-array-write-learners Inv-loop μ-loop
+array-write-learners c = omega (arith, c .before .before .before .before .before .before .before .before .before .before .before .before .loop-test .taken, c .before .before .before .before .before .before .before .before .before .before .before .before .before .before .before .before .before .before .before .before .before .before .before .before .pre .1 .1 .1 .0 .held)
+
+array-write-fresh : tie.Need-array-write-fresh Inv-loop μ-loop
+array-write-fresh c = omega (arith, c .before .before .before .before .before .before .before .before .before .before .before .before .loop-test .taken, c .before .before .before .before .before .before .before .before .before .before .before .before .before .before .before .before .before .before .before .before .before .before .before .before .pre .1 .1 .1 .0 .held)
+
+array-write-forms : tie.Need-array-write-forms Inv-loop μ-loop
+array-write-forms c = omega (arith, c .before .before .before .before .before .before .before .before .before .before .before .before .loop-test .taken, c .before .before .before .before .before .before .before .before .before .before .before .before .before .before .before .before .before .before .before .before .before .before .before .before .pre .1 .1 .1 .0 .held)
+
+add-p : tie.Need-add-p Inv-loop μ-loop
+add-p c = omega (arith, c .before .before .before .before .before .before .before .before .before .before .before .before .loop-test .taken, c .before .before .before .before .before .before .before .before .before .before .before .before .before .before .before .before .before .before .before .before .before .before .before .before .pre .1 .1 .1 .0 .held)
+
+loop-less : tie.Need-loop-less Inv-loop μ-loop
+loop-less c = omega (arith, c .before .before .before .before .before .before .before .before .before .before .before .before .loop-test .taken, c .before .before .before .before .before .before .before .before .before .before .before .before .before .before .before .before .before .before .before .before .before .before .before .before .pre .1 .1 .1 .0 .held)
+
+loop-again : tie.Need-loop-again Inv-loop μ-loop
+loop-again c = let a = c .before .before .before .before .before .before .before .before .before .before .before .before .before .before .before .before .before .before .before .before .before .before .before .before .args in let pre = c .before .before .before .before .before .before .before .before .before .before .before .before .before .before .before .before .before .before .before .before .before .before .before .before .pre in let fit = pre .1 .1 .1 .0 in let lens = pre .1 .1 .1 .1 in let lp = c .before .before .before .before .before .before .before .before .before .before .before .before .before .loop in let w = lp .inv .1 .0 in let r = c .before .before .note-held .result in (
+  omega (arith, c .before .before .before .before .before .before .before .before .before .before .before .before .loop-test .taken),
+  (
+    (length-set (lp .low) (lp .p) (r .beneath .low) ∙ w .0, (length-set (lp .high) (lp .p) (r .beneath .high) ∙ w .1 .0, (length-set (lp .forklow) (lp .p) (r .forks .low) ∙ w .1 .1 .0, (length-set (lp .forkhigh) (lp .p) (r .forks .high) ∙ w .1 .1 .1 .0, (length-set (lp .tops) (lp .p) (r .ballot) ∙ w .1 .1 .1 .1 .0, (length-set (lp .learners) (lp .p) (r .learners) ∙ w .1 .1 .1 .1 .1 .0, (length-set (lp .fresh) (lp .p) (r .fresh) ∙ w .1 .1 .1 .1 .1 .1 .0, length-set (lp .forms) (lp .p) (r .form) ∙ w .1 .1 .1 .1 .1 .1 .1))))))),
+    pass-more (heldGraph (a .acceptors) (a .l) (a .lists .now) (a .masks .now)) (a .ids .now) (a .kinds .now) (a .signers .now) (a .ballots .now) (a .previous .now) (a .counts .now) (a .references .now) (a .n) fit (lp .p) (c .before .before .before .before .before .before .before .before .before .before .before .before .loop-test .taken) (lp .low) (lp .high) (lp .forklow) (lp .forkhigh) (lp .tops) (lp .learners) (lp .fresh) (lp .forms) (w .0) (w .1 .0) (w .1 .1 .0) (w .1 .1 .1 .0) (w .1 .1 .1 .1 .0) (w .1 .1 .1 .1 .1 .0) (w .1 .1 .1 .1 .1 .1 .0) (w .1 .1 .1 .1 .1 .1 .1) (lp .inv .1 .1) r
+        (c .before .before .note-held .ensures (a .ids .now) (c .before .before .before .before .before .before .before .before .before .before .before .before .before .before .names-of .ensures .1) (lp .inv .1 .1)),
+  ),
+)
+
+returns : tie.Need-returns Inv-loop μ-loop
+returns c = let a = c .before .before .before .before .before .before .before .before .before .before .before .before .args in let pre = c .before .before .before .before .before .before .before .before .before .before .before .before .pre in let fit = pre .1 .1 .1 .0 in let lens = pre .1 .1 .1 .1 in let lp = c .before .loop in let e : lp .p ≡ a .n = omega arith in
+    (c .before .before .names-of .ensures .1, subst (λ (k : ℕ). Known (heldGraph (a .acceptors) (a .l) (a .lists .now) (a .masks .now)) (tableIn (a .ids .now) (a .kinds .now) (a .signers .now) (a .ballots .now) (a .previous .now) (a .counts .now) (a .references .now) k) (a .kinds .now) (a .signers .now) (lp .low) (lp .high) (lp .forklow) (lp .forkhigh) (lp .tops) (lp .learners) (lp .fresh) (lp .forms)) e (lp .inv .1 .1))
+
+pub work-out-spec : {M : Type 1} → statement M
+work-out-spec =
+    tie.close
+    (tie.spec
+    Inv-loop
+    μ-loop
+    names-of-requires
+    loop-holds
+    slice-aggregate-note-held
+    slice-aggregate-note-held-2
+    slice-aggregate-note-held-3
+    slice-aggregate-note-held-4
+    slice-aggregate-note-held-5
+    slice-aggregate-note-held-6
+    slice-aggregate-note-held-7
+    slice-aggregate-note-held-8
+    slice-aggregate-note-held-9
+    note-held-requires
+    mul-low
+    array-write-low
+    mul-high
+    array-write-high
+    mul-forklow
+    array-write-forklow
+    mul-forkhigh
+    array-write-forkhigh
+    mul-tops
+    array-write-tops
+    array-write-learners
+    array-write-fresh
+    array-write-forms
+    add-p
+    loop-less
+    loop-again
+    returns)

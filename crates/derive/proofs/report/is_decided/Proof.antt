@@ -1,0 +1,34 @@
+use mathlib.Core.Path.{_≡_, refl, ap, ap₂, sym, _∙_}
+use mathlib.Core.Bool.{Bool, true, false, not, _&&_, _||_}
+use Prim.Native.Nat.{ℕ, suc, _≤_, _<_, _-_, _+_, _*_, _/_, _^_, max}
+use lib.ListN.{length, getD, take}
+use lib.Dec.{eqb, ltb}
+use Rattle.base.specs.Tests.{pick, any, below}
+use Rattle.base.specs.Sets.{has}
+use Rattle.derive.specs.PlaceSets.{inSet, meets}
+use Rattle.graph.specs.LearnerGraph.{isQuorum}
+use Rattle.graph.specs.Held.{heldGraph}
+use Rattle.derive.specs.Deciding.{votersFor}
+use Rattle.graph.proofs.LearnerGraph.{quorum-cong}
+use borrow.Author.Needs.{needs}
+use native.Mathlib.Omega.{arith}
+use Rattle.derive.proofs.report.is_decided.Statement.{statement}
+use Rattle.derive.proofs.report.is_decided.Tie as tie
+use Rattle.derive.proofs.report.is_decided.Reads as reads
+use Rattle.derive.proofs.report.is_decided.Lts as lts
+use Rattle.derive.proofs.report.voters.Reads as voters-reads
+use Rattle.graph.proofs.lists.is_quorum.Reads as is-quorum-reads
+
+voters-requires : tie.Need-voters-requires
+voters-requires c κs = search needs
+
+is-quorum-requires : tie.Need-is-quorum-requires
+is-quorum-requires c κs = search needs
+
+returns : tie.Need-returns
+returns c = let a = c .before .before .before .before .before .before .before .before .before .args in λ m. c .is-quorum .ensures m
+    ∙ quorum-cong (heldGraph (a .acceptors) m (a .lists .now) (a .masks .now)) (a .a) (has (c .before .voters .result))
+    (votersFor (a .known .now) (a .forms .now) (a .learners .now) (a .tops .now) (a .signers .now) (a .n) (a .a) (a .x)) (λ p h. c .before .voters .ensures p (let g = c .before .before .before .before .before .before .before .before .before .pre .0 in omega arith))
+
+pub is-decided-spec : {M : Type 1} → statement M
+is-decided-spec = tie.close (tie.spec voters-requires is-quorum-requires returns)

@@ -1,0 +1,76 @@
+use mathlib.Core.Path.{_≡_, refl, ap, ap₂, sym, _∙_}
+use mathlib.Core.Bool.{Bool, true, false, not, _&&_, _||_}
+use Prim.Native.Nat.{ℕ, suc, _≤_, _<_, _-_, _+_, _*_, _/_, _^_, max}
+use lib.ListN.{length, getD, take}
+use lib.Dec.{eqb, ltb}
+use Rattle.base.specs.Tests.{pick, any, below}
+use Rattle.base.specs.Sets.{has}
+use Rattle.derive.specs.PlaceSets.{inSet, meets}
+use Rattle.graph.specs.LearnerGraph.{isQuorum}
+use Rattle.graph.specs.Held.{heldGraph}
+use Rattle.derive.specs.Deciding.{isDeciding, lowered, leastOf}
+use native.Mathlib.Numerals.{add-one}
+use Rattle.derive.specs.declared.Least.{Least}
+use borrow.Author.Needs.{needs}
+use native.Mathlib.Omega.{arith}
+use Rattle.derive.proofs.report.least_deciding.Statement.{statement}
+use Rattle.derive.proofs.report.least_deciding.Tie as tie
+use Rattle.derive.proofs.report.least_deciding.Reads as reads
+use Rattle.derive.proofs.report.least_deciding.Lts as lts
+use Rattle.derive.proofs.report.is_deciding.Reads as is-deciding-reads
+use Rattle.derive.proofs.report.lower.Reads as lower-reads
+
+abbrev Inv-loop : tie.InvT-loop
+Inv-loop lists masks known forms learners tops signers acceptors n a other v least₀ j₀ least j = (j ≤ n) × ((m : ℕ) → least ≡ leastOf (isDeciding (heldGraph acceptors m lists masks) known forms learners tops signers n a other v) (λ j. getD tops j 0) j)
+
+abbrev μ-loop : tie.MeasureT-loop
+μ-loop lists masks known forms learners tops signers acceptors n a other v least₀ j₀ least j = n - j
+
+loop-holds : tie.Need-loop-holds Inv-loop μ-loop
+unfolding leastOf
+loop-holds c = (omega arith, λ m. refl)
+
+is-deciding-requires : tie.Need-is-deciding-requires Inv-loop μ-loop
+is-deciding-requires c κs = search needs
+
+mul-lower : tie.Need-mul-lower Inv-loop μ-loop
+mul-lower c = search needs
+
+shared-slice-read-lower : tie.Need-shared-slice-read-lower Inv-loop μ-loop
+shared-slice-read-lower c = search needs
+
+lower-requires : tie.Need-lower-requires Inv-loop μ-loop
+lower-requires c κs = search needs
+
+add-j : tie.Need-add-j Inv-loop μ-loop
+add-j c = search needs
+
+loop-less : tie.Need-loop-less Inv-loop μ-loop
+loop-less c = search needs
+
+loop-again : tie.Need-loop-again Inv-loop μ-loop
+unfolding leastOf
+loop-again c = let a = c .before .before .before .before .before .before .before .before .before .before .before .before .args in let l = c .before .before .before .before .loop in (
+  omega arith,
+  λ m. c .lower .ensures ∙ ap₂ (λ (p : Least) (b : Bool). lowered p b (getD (a .tops .now) (l .j) 0)) (l .inv .1 m) (c .before .before .is-deciding .ensures m)
+      ∙ sym (ap (leastOf (isDeciding (heldGraph (a .acceptors) m (a .lists .now) (a .masks .now)) (a .known .now) (a .forms .now) (a .learners .now) (a .tops .now) (a .signers .now) (a .n) (a .a) (a .other) (a .v)) (λ j. getD (a .tops .now) j 0)) (add-one (l .j))),
+)
+
+returns : tie.Need-returns Inv-loop μ-loop
+returns c = let a = c .before .before .before .before .before .before .before .before .before .args in let l = c .before .loop in let e : l .j ≡ a .n = omega arith in λ m. l .inv .1 m ∙ ap (leastOf (isDeciding (heldGraph (a .acceptors) m (a .lists .now) (a .masks .now)) (a .known .now) (a .forms .now) (a .learners .now) (a .tops .now) (a .signers .now) (a .n) (a .a) (a .other) (a .v)) (λ j. getD (a .tops .now) j 0)) e
+
+pub least-deciding-spec : {M : Type 1} → statement M
+least-deciding-spec =
+    tie.close
+    (tie.spec
+    Inv-loop
+    μ-loop
+    loop-holds
+    is-deciding-requires
+    mul-lower
+    shared-slice-read-lower
+    lower-requires
+    add-j
+    loop-less
+    loop-again
+    returns)

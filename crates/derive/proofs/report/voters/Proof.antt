@@ -1,0 +1,65 @@
+use mathlib.Core.Path.{_≡_, refl, ap, ap₂, sym, _∙_}
+use mathlib.Core.Bool.{Bool, true, false, not, _&&_, _||_}
+use Prim.Native.Nat.{ℕ, suc, _≤_, _<_, _-_, _+_, _*_, _/_, _^_, max}
+use lib.ListN.{length, getD, take}
+use lib.Dec.{eqb, ltb}
+use Rattle.base.specs.Tests.{pick, any, below}
+use Rattle.base.specs.Sets.{has}
+use Rattle.derive.specs.PlaceSets.{inSet, meets}
+use Rattle.derive.proofs.Loops.{put-again, any-done}
+use Rattle.derive.proofs.Membership.{has-zero}
+use Rattle.derive.specs.Deciding.{isVoter}
+use borrow.Author.Needs.{needs}
+use native.Mathlib.Omega.{arith}
+use Rattle.derive.proofs.report.voters.Statement.{statement}
+use Rattle.derive.proofs.report.voters.Tie as tie
+use Rattle.derive.proofs.report.voters.Reads as reads
+use Rattle.derive.proofs.report.voters.Lts as lts
+use Rattle.derive.proofs.report.is_voter.Reads as is-voter-reads
+use Rattle.derive.proofs.sets.with_acceptor.Reads as with-acceptor-reads
+
+abbrev Inv-loop : tie.InvT-loop
+Inv-loop known forms learners tops signers n a x mask₀ j₀ mask j = (j ≤ n) × ((p : ℕ) → p < 32 → has mask p ≡ any (λ j. isVoter known forms learners tops a x j && eqb (getD signers j 0) p) (below j))
+
+abbrev μ-loop : tie.MeasureT-loop
+μ-loop known forms learners tops signers n a x mask₀ j₀ mask j = n - j
+
+loop-holds : tie.Need-loop-holds Inv-loop μ-loop
+unfolding any below
+loop-holds c = (omega arith, λ p h. has-zero p)
+
+is-voter-requires : tie.Need-is-voter-requires Inv-loop μ-loop
+is-voter-requires c κs = search needs
+
+shared-slice-read-with-acceptor : tie.Need-shared-slice-read-with-acceptor Inv-loop μ-loop
+shared-slice-read-with-acceptor c = search needs
+
+with-acceptor-requires : tie.Need-with-acceptor-requires Inv-loop μ-loop
+with-acceptor-requires c κs = search needs
+
+add-j : tie.Need-add-j Inv-loop μ-loop
+add-j c = search needs
+
+loop-less : tie.Need-loop-less Inv-loop μ-loop
+loop-less c = search needs
+
+loop-again : tie.Need-loop-again Inv-loop μ-loop
+loop-again c = let a = c .before .before .before .before .before .before .before .before .before .before .args in let l = c .before .before .before .before .loop in (omega arith, λ p h. put-again (isVoter (a .known .now) (a .forms .now) (a .learners .now) (a .tops .now) (a .a) (a .x)) (λ j. getD (a .signers .now) j 0) (l .j) p (c .before .before .is-voter .result) _ _ (c .with-acceptor .ensures p h) (c .before .before .is-voter .ensures) (l .inv .1 p h))
+
+returns : tie.Need-returns Inv-loop μ-loop
+returns c = let a = c .before .before .before .before .before .before .before .args in let l = c .before .loop in λ p h. l .inv .1 p h ∙ any-done (λ j. isVoter (a .known .now) (a .forms .now) (a .learners .now) (a .tops .now) (a .a) (a .x) j && eqb (getD (a .signers .now) j 0) p) (l .j) (a .n) (l .inv .0) (c .loop-test .left)
+
+pub voters-spec : {M : Type 1} → statement M
+voters-spec =
+    tie.close
+    (tie.spec
+    Inv-loop
+    μ-loop
+    loop-holds
+    is-voter-requires
+    shared-slice-read-with-acceptor
+    with-acceptor-requires
+    add-j
+    loop-less
+    loop-again
+    returns)

@@ -1,0 +1,30 @@
+use mathlib.Core.Path.{_≡_, refl, ap, ap₂, sym, _∙_}
+use mathlib.Core.Bool.{Bool, true, false, not, _&&_, _||_}
+use Prim.Native.Nat.{ℕ, suc, _≤_, _<_, _-_, _+_, _*_, _/_, _^_, max}
+use lib.ListN.{length, getD, take}
+use lib.Dec.{eqb, ltb}
+use Rattle.base.specs.Tests.{pick, any, below}
+use Rattle.base.specs.Sets.{has}
+use Rattle.derive.specs.PlaceSets.{inSet, meets}
+use Rattle.derive.proofs.Membership.{has-with}
+use borrow.Author.Needs.{needs}
+use native.Mathlib.Omega.{arith}
+use Rattle.derive.proofs.sets.with_learner.Statement.{statement}
+use Rattle.derive.proofs.sets.with_learner.Tie as tie
+use Rattle.derive.proofs.sets.with_learner.Reads as reads
+use Rattle.derive.proofs.sets.with_learner.Lts as lts
+
+cast-result : tie.Need-cast-result
+cast-result c = search needs
+
+shl-result : tie.Need-shl-result
+shl-result c = search needs
+
+returns : tie.Need-returns
+returns c = let a = c .before .args in λ q. has-with 8 (a .mask) (a .a) q (c .before .pre) ∙ sym (ap (λ (b : Bool). (b && eqb (a .a) q) || has (a .mask) q) (c .if1 .taken))
+
+returns-2 : tie.Need-returns-2
+returns-2 c = let a = c .before .args in λ q. sym (ap (λ (b : Bool). (b && eqb (a .a) q) || has (a .mask) q) (c .if1 .left))
+
+pub with-learner-spec : {M : Type 1} → statement M
+with-learner-spec = tie.close (tie.spec cast-result shl-result returns returns-2)

@@ -1,0 +1,91 @@
+-- What is noted of a held message, and what is worked out for a message from the notes of the places before it, in the terms of the
+-- definitions (protocol/specs). The table t holds the places before it; a message that is worked out is one more record at its end.
+use mathlib.Core.Path.{_≡_}
+use mathlib.Core.Bool.{Bool, not, _&&_}
+use mathlib.Core.Option.{Option}
+use mathlib.Core.List.{List, [], _∷_, _++_}
+use Prim.Native.Nat.{ℕ, _≤_, _<_}
+use lib.Dec.{T, eqb, ltb}
+use lib.ListN.{length, getD}
+use Rattle.base.specs.Tests.{_∈_, any}
+use Rattle.base.specs.Sets.{has}
+use Rattle.graph.specs.LearnerGraph.{LearnerGraph}
+use Rattle.graph.specs.Held.{Sized}
+use Rattle.protocol.specs.Ids.{Id, sameId, samePrevious}
+use Rattle.protocol.specs.Message.{Message, isProposal, forks, tran}
+use Rattle.protocol.specs.WellFormed.{formed1b, formed2a}
+use Rattle.protocol.specs.Table.{Held, says, Table, at, heldId, heldSigner, heldPrevious, offered, Ordered, tree, reach}
+use Rattle.protocol.specs.Places.{is1bAt, is2aAt, ballotAt, caughtAt, formed1bAt, freshAt, lrnsAt, formed2aAt}
+use Rattle.derive.specs.declared.Note.{Note}
+use Rattle.derive.specs.PlaceSets.{inSet}
+use Rattle.derive.specs.Arrays.{Whole, isOffer}
+
+-- ---- the notes of place i are right: the places that it reaches, those before it that fork with it, its ballot, whether it is a 1b or a
+-- 2a, its learners, and the learners that it is fresh for
+pub record Noted (G : LearnerGraph) (t : Table) (i low high forkLow forkHigh top learners fresh form : ℕ) : Type 0 where
+  pub reaches : (j : ℕ) → j < 128 → inSet low high j ≡ reach t i j
+  pub forking : (j : ℕ) → j < 128 → inSet forkLow forkHigh j ≡ (ltb j i && forks (tree t j) (tree t i))
+  pub ballot : top ≡ ballotAt t i
+  pub first : eqb form 1 ≡ is1bAt t i
+  pub second : eqb form 2 ≡ is2aAt t i
+  pub learning : (a : ℕ) → a < G .learners → has learners a ≡ lrnsAt t G i a
+  pub freshly : (a : ℕ) → a < G .learners → T (is1bAt t i) → has fresh a ≡ freshAt t G a i
+
+abbrev pub NotedBy : LearnerGraph → Table → ℕ → Note → Type 0
+NotedBy G t i r = Noted G t i (r .beneath .low) (r .beneath .high) (r .forks .low) (r .forks .high) (r .ballot) (r .learners) (r .fresh) (r .form)
+
+-- ---- the notes of all places of t are right
+pub record Known (G : LearnerGraph) (t : Table) (kinds signers low high forkLow forkHigh tops learners fresh forms : List ℕ) : Type 0 where
+  pub ordered : Ordered t
+  pub kind : (i : ℕ) → i < length t → isOffer kinds i ≡ offered (at t i)
+  pub signer : (i : ℕ) → i < length t → getD signers i 0 ≡ heldSigner (at t i)
+  pub noted : (i : ℕ) → i < length t
+      → Noted G t i (getD low i 0) (getD high i 0) (getD forkLow i 0) (getD forkHigh i 0) (getD tops i 0) (getD learners i 0) (getD fresh i 0) (getD forms i 0)
+
+-- ---- an acceptor message with this id, previous id and references: it refers to places of t, its name tells its id from those held, and
+-- its link its previous id
+pub record Candidate (t : Table) (names previous places : List ℕ) (id : Id) (prev : Option Id) (name link : ℕ) : Type 0 where
+  pub earlier : (j : ℕ) → j ∈ places → j < length t
+  pub named : (j : ℕ) → j < length t → eqb (getD names j 0) name ≡ sameId (heldId (at t j)) id
+  pub linked : (j : ℕ) → j < length t → T (not (offered (at t j))) → eqb (getD names (getD previous j 0) 0) link ≡ samePrevious (heldPrevious (at t j)) prev
+
+-- ---- what is worked out for place i of t is right, but that the place itself is left out of what it reaches
+pub record Told (G : LearnerGraph) (t : Table) (i : ℕ) (r : Note) : Type 0 where
+  pub reaches : (j : ℕ) → j < i → inSet (r .beneath .low) (r .beneath .high) j ≡ reach t i j
+  pub none : (j : ℕ) → i ≤ j → j < 128 → T (inSet (r .beneath .low) (r .beneath .high) j) → ⊥
+  pub forking : (j : ℕ) → j < 128 → inSet (r .forks .low) (r .forks .high) j ≡ (ltb j i && forks (tree t j) (tree t i))
+  pub ballot : r .ballot ≡ ballotAt t i
+  pub first : eqb (r .form) 1 ≡ is1bAt t i
+  pub second : eqb (r .form) 2 ≡ is2aAt t i
+  pub caught : (p : ℕ) → p < G .acceptors → has (r .caught) p ≡ caughtAt t i p
+  pub learning : (a : ℕ) → a < G .learners → has (r .learners) a ≡ lrnsAt t G i a
+  pub freshly : (a : ℕ) → a < G .learners → T (is1bAt t i) → has (r .fresh) a ≡ freshAt t G a i
+  pub grounded : r .grounded ≡ any isProposal (tran (tree t i))
+  pub formed1 : r .formed1b ≡ formed1bAt t i
+  pub formed2 : r .formed2a ≡ formed2aAt t G i
+
+-- ---- what is asked of a message m before it is taken or sent
+pub record Judged (G : LearnerGraph) (m : Message) (r : Note) : Type 0 where
+  pub grounded : r .grounded ≡ any isProposal (tran m)
+  pub formed1 : r .formed1b ≡ formed1b m
+  pub formed2 : r .formed2a ≡ formed2a G m
+
+-- ---- numbers and lengths in range
+pub record Ready (acceptors l n : ℕ) (counts masks kinds signers names previous low high forkLow forkHigh tops learners fresh forms places : List ℕ) : Type 0 where
+  pub acceptorsFit : acceptors ≤ 32
+  pub learnersFit : l ≤ 8
+  pub heldFit : n ≤ 128
+  pub sized : Sized counts masks
+  pub kindsFit : Whole kinds
+  pub signersFit : Whole signers
+  pub namesFit : length names ≡ 256
+  pub previousFit : Whole previous
+  pub lowFit : Whole low
+  pub highFit : Whole high
+  pub forkLowFit : Whole forkLow
+  pub forkHighFit : Whole forkHigh
+  pub topsFit : Whole tops
+  pub learnedFit : Whole learners
+  pub freshFit : Whole fresh
+  pub formsFit : Whole forms
+  pub placesFit : (i : ℕ) → getD places i 0 < 128

@@ -1,0 +1,81 @@
+// What follows from the messages that a round holds: for each place what lies beneath it, its ballot, whether it is a 1b or a 2a, for which
+// learners it is fresh or counts, and whether it is well-formed. One pass over the places, each from those before it; the arrays are lent.
+
+pub mod beneath;
+pub mod forks;
+pub mod learners;
+pub mod names;
+pub mod pass;
+pub mod report;
+pub mod sets;
+pub mod step;
+
+// A set of places: bit j of low is place j, bit j of high place 64 + j.
+pub struct Places {
+    pub low: u64,
+    pub high: u64,
+}
+
+// What lies beneath a message: a set of places, its ballot, and whether it refers to a proposal.
+pub struct Under {
+    pub low: u64,
+    pub high: u64,
+    pub ballot: u64,
+    pub offered: bool,
+}
+
+// The highest of some ballots, and the highest of another value than that one's; 0 where there is none.
+pub struct Peaks {
+    pub best: u64,
+    pub other: u64,
+}
+
+// What is worked out for a message.
+pub struct Note {
+    // The places that it reaches, itself left out.
+    pub beneath: Places,
+    // The places before it that fork with it.
+    pub forks: Places,
+    pub ballot: u64,
+    // The acceptors caught beneath it.
+    pub caught: u32,
+    // The learners of a 2a, and those that a 1b is fresh for.
+    pub learners: u8,
+    pub fresh: u8,
+    // 0: a proposal; 1: a 1b; 2: a 2a.
+    pub form: u8,
+    // Whether a proposal lies beneath it, and whether it is well-formed as a 1b and as a 2a.
+    pub grounded: bool,
+    pub formed1b: bool,
+    pub formed2a: bool,
+}
+
+// The notes of the places of a round.
+pub struct Notes {
+    // The lowest place with the id of each place; at 255, 255.
+    pub names: [u8; 256],
+    // The places that each place reaches, itself among them, and those before it that fork with it.
+    pub low: [u64; 128],
+    pub high: [u64; 128],
+    pub forklow: [u64; 128],
+    pub forkhigh: [u64; 128],
+    // Its ballot, its learners, those that it is fresh for, and 0 for a proposal, 1 for a 1b, 2 for a 2a.
+    pub tops: [u64; 128],
+    pub learners: [u8; 128],
+    pub fresh: [u8; 128],
+    pub forms: [u8; 128],
+}
+
+// The least of some ballots, if there is one.
+pub struct Least {
+    pub found: bool,
+    pub ballot: u64,
+}
+
+// What a report says: no ballot decides; all that decide carry one value, and this is the least; or they carry several, and these are the least
+// and the least of another value than that one's.
+pub enum Verdict {
+    Undecided,
+    Decided(u64),
+    Split(u64, u64),
+}

@@ -1,0 +1,248 @@
+// The pass over the places of a round, in order: each is worked out from the notes of those before it, and its notes are put down.
+use crate::Note;
+use crate::Notes;
+use crate::Places;
+use crate::names::name_of;
+use crate::names::names_of;
+use crate::sets::with_place;
+use crate::step::step;
+use base::size;
+use graph::Mask;
+ghost use mathlib.Core.Path.{_≡_};
+ghost use mathlib.Core.Logic.{_⊎_};
+ghost use mathlib.Core.List.{List, [], _∷_, _++_};
+ghost use Prim.Native.Nat.{ℕ, suc, _≤_, _<_};
+ghost use lib.ListN.{length, getD};
+ghost use Rattle.base.specs.Tests.{_∈_};
+ghost use Rattle.graph.specs.Held.{heldGraph, Sized};
+ghost use Rattle.protocol.specs.Table.{says, nodeBy, tree};
+ghost use Rattle.derive.specs.Arrays.{Whole, Named};
+ghost use Rattle.derive.specs.Records.{namedIn, tableIn, Fit, Lengths};
+ghost use Rattle.derive.specs.Notes.{NotedBy, Known, Judged, Ready};
+
+// The held message at place p, with the place itself among those that it reaches.
+fn note_held<'a>(
+    lists: &'a [u8],
+    masks: &'a [Mask],
+    kinds: &'a [u8],
+    signers: &'a [u8],
+    ballots: &'a [u64],
+    previous: &'a [u8],
+    counts: &'a [u8],
+    references: &'a [u8],
+    names: &'a [u8],
+    low: &'a [u64],
+    high: &'a [u64],
+    forklow: &'a [u64],
+    forkhigh: &'a [u64],
+    tops: &'a [u64],
+    learners: &'a [u8],
+    fresh: &'a [u8],
+    forms: &'a [u8],
+    acceptors: u8,
+    l: usize,
+    n: usize,
+    p: usize,
+) -> Note
+    requires { ⌜ (p < n) × (Fit n (now kinds) (now previous) (now counts) (now references) × (Whole (now ballots) × (Whole (now counts) × ((length (now references) ≡ 16384)
+        × Ready acceptors l n (now lists) (now masks) (now kinds) (now signers) (now names) (now previous) (now low) (now high) (now forklow) (now forkhigh) (now tops) (now learners) (now fresh) (now forms) [])))) ⌝ }
+    ensures { λ r. ⌜ ((ids : List ℕ) → Named ids n (now (names .entry))
+        → Known (heldGraph acceptors l (now (lists .entry)) (now (masks .entry))) (tableIn ids (now (kinds .entry)) (now (signers .entry)) (now (ballots .entry)) (now (previous .entry)) (now (counts .entry)) (now (references .entry)) p) (now (kinds .entry)) (now (signers .entry)) (now (low .entry)) (now (high .entry)) (now (forklow .entry)) (now (forkhigh .entry)) (now (tops .entry)) (now (learners .entry)) (now (fresh .entry)) (now (forms .entry))
+        → NotedBy (heldGraph acceptors l (now (lists .entry)) (now (masks .entry))) (tableIn ids (now (kinds .entry)) (now (signers .entry)) (now (ballots .entry)) (now (previous .entry)) (now (counts .entry)) (now (references .entry)) (suc p)) p r) ⌝ }
+{
+    if kinds[p] == 1 {
+        let alone = with_place(0, 0, p, true);
+        let none = Places { low: 0, high: 0 };
+        return Note {
+            beneath: alone,
+            forks: none,
+            ballot: ballots[p],
+            caught: 0,
+            learners: 0,
+            fresh: 0,
+            form: 0,
+            grounded: true,
+            formed1b: true,
+            formed2a: true,
+        };
+    }
+    let from = 128 * p;
+    let to = from + size(counts[p]);
+    let at = size(previous[p]);
+    let r = step(
+        lists,
+        masks,
+        kinds,
+        signers,
+        names,
+        previous,
+        low,
+        high,
+        forklow,
+        forkhigh,
+        tops,
+        learners,
+        fresh,
+        forms,
+        &references[from..to],
+        acceptors,
+        l,
+        p,
+        signers[p],
+        names[p],
+        names[at],
+    );
+    let b = r.beneath;
+    let beneath = with_place(b.low, b.high, p, true);
+    let forks = r.forks;
+    Note {
+        beneath,
+        forks,
+        ballot: r.ballot,
+        caught: r.caught,
+        learners: r.learners,
+        fresh: r.fresh,
+        form: r.form,
+        grounded: r.grounded,
+        formed1b: r.formed1b,
+        formed2a: r.formed2a,
+    }
+}
+
+// The notes of the first n places of a round.
+pub fn work_out<'a>(
+    lists: &'a [u8],
+    masks: &'a [Mask],
+    ids: &'a [u8],
+    kinds: &'a [u8],
+    signers: &'a [u8],
+    ballots: &'a [u64],
+    previous: &'a [u8],
+    counts: &'a [u8],
+    references: &'a [u8],
+    acceptors: u8,
+    l: usize,
+    n: usize,
+) -> Notes
+    requires { ⌜ (acceptors ≤ 32) × ((l ≤ 8) × (Sized (now lists) (now masks) × (Fit n (now kinds) (now previous) (now counts) (now references)
+        × Lengths (now ids) (now kinds) (now signers) (now ballots) (now previous) (now counts) (now references)))) ⌝ }
+    ensures { λ r. ⌜ Named (now (ids .entry)) n (r .names)
+        × Known (heldGraph acceptors l (now (lists .entry)) (now (masks .entry))) (tableIn (now (ids .entry)) (now (kinds .entry)) (now (signers .entry)) (now (ballots .entry)) (now (previous .entry)) (now (counts .entry)) (now (references .entry)) n) (now (kinds .entry)) (now (signers .entry)) (r .low) (r .high) (r .forklow) (r .forkhigh) (r .tops) (r .learners) (r .fresh) (r .forms) ⌝ }
+{
+    let names = names_of(ids, n);
+    let mut low = [0u64; 128];
+    let mut high = [0u64; 128];
+    let mut forklow = [0u64; 128];
+    let mut forkhigh = [0u64; 128];
+    let mut tops = [0u64; 128];
+    let mut learners = [0u8; 128];
+    let mut fresh = [0u8; 128];
+    let mut forms = [0u8; 128];
+    let mut p: usize = 0;
+    while p < n {
+        let r = note_held(
+            lists,
+            masks,
+            kinds,
+            signers,
+            ballots,
+            previous,
+            counts,
+            references,
+            &names,
+            &low,
+            &high,
+            &forklow,
+            &forkhigh,
+            &tops,
+            &learners,
+            &fresh,
+            &forms,
+            acceptors,
+            l,
+            n,
+            p,
+        );
+        let b = r.beneath;
+        let f = r.forks;
+        low[p] = b.low;
+        high[p] = b.high;
+        forklow[p] = f.low;
+        forkhigh[p] = f.high;
+        tops[p] = r.ballot;
+        learners[p] = r.learners;
+        fresh[p] = r.fresh;
+        forms[p] = r.form;
+        p += 1;
+    }
+    Notes {
+        names,
+        low,
+        high,
+        forklow,
+        forkhigh,
+        tops,
+        learners,
+        fresh,
+        forms,
+    }
+}
+
+// A message that the round does not hold, judged by the notes of the n places that it does: an acceptor message with this id and signer that
+// names the message at place `prev` as its previous one, or none for 255, and refers to these places.
+pub fn note_new<'a>(
+    lists: &'a [u8],
+    masks: &'a [Mask],
+    ids: &'a [u8],
+    kinds: &'a [u8],
+    signers: &'a [u8],
+    previous: &'a [u8],
+    names: &'a [u8],
+    low: &'a [u64],
+    high: &'a [u64],
+    forklow: &'a [u64],
+    forkhigh: &'a [u64],
+    tops: &'a [u64],
+    learners: &'a [u8],
+    fresh: &'a [u8],
+    forms: &'a [u8],
+    id: &'a [u8],
+    places: &'a [u8],
+    acceptors: u8,
+    l: usize,
+    n: usize,
+    signer: u8,
+    prev: u8,
+) -> Note
+    requires { ⌜ (length (now ids) ≡ 4096) × Ready acceptors l n (now lists) (now masks) (now kinds) (now signers) (now names) (now previous) (now low) (now high) (now forklow) (now forkhigh) (now tops) (now learners) (now fresh) (now forms) (now places) ⌝ }
+    ensures { λ r. ⌜ ((ballots counts references : List ℕ) → Fit n (now (kinds .entry)) (now (previous .entry)) counts references → Named (now (ids .entry)) n (now (names .entry))
+        → (prev ≡ 255) ⊎ (prev < n) → ((j : ℕ) → j ∈ (now (places .entry)) → j < n)
+        → Known (heldGraph acceptors l (now (lists .entry)) (now (masks .entry))) (tableIn (now (ids .entry)) (now (kinds .entry)) (now (signers .entry)) ballots (now (previous .entry)) counts references n) (now (kinds .entry)) (now (signers .entry)) (now (low .entry)) (now (high .entry)) (now (forklow .entry)) (now (forkhigh .entry)) (now (tops .entry)) (now (learners .entry)) (now (fresh .entry)) (now (forms .entry))
+        → Judged (heldGraph acceptors l (now (lists .entry)) (now (masks .entry))) (nodeBy (tree (tableIn (now (ids .entry)) (now (kinds .entry)) (now (signers .entry)) ballots (now (previous .entry)) counts references n)) (says (now (id .entry)) signer (namedIn (now (ids .entry)) prev) (now (places .entry)))) r) ⌝ }
+{
+    let name = name_of(ids, n, id) as u8;
+    let at = size(prev);
+    step(
+        lists,
+        masks,
+        kinds,
+        signers,
+        names,
+        previous,
+        low,
+        high,
+        forklow,
+        forkhigh,
+        tops,
+        learners,
+        fresh,
+        forms,
+        places,
+        acceptors,
+        l,
+        n,
+        signer,
+        name,
+        names[at],
+    )
+}

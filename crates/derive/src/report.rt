@@ -1,0 +1,243 @@
+// The report for a learner, from the notes of the places of a round.
+use crate::Least;
+use crate::Verdict;
+use crate::learners::value;
+use crate::sets::has_learner;
+use crate::sets::with_acceptor;
+use graph::Mask;
+use graph::lists::is_quorum;
+ghost use mathlib.Core.Path.{_≡_};
+ghost use mathlib.Core.Bool.{not, _&&_, _||_};
+ghost use mathlib.Core.List.{List};
+ghost use Prim.Native.Nat.{ℕ, _≤_, _<_};
+ghost use lib.Dec.{eqb};
+ghost use lib.ListN.{length, getD};
+ghost use Rattle.base.specs.Tests.{any, filter, below};
+ghost use Rattle.base.specs.Sets.{has};
+ghost use Rattle.graph.specs.LearnerGraph.{isQuorum};
+ghost use Rattle.graph.specs.Held.{heldGraph, Sized};
+ghost use Rattle.protocol.specs.Table.{Table};
+ghost use Rattle.protocol.specs.Places.{reportAt};
+ghost use Rattle.derive.specs.Arrays.{Whole};
+ghost use Rattle.derive.specs.Deciding.{isKnownIn, isVoter, votersFor, isDeciding, lowered, leastOf, shown};
+ghost use Rattle.derive.specs.Notes.{Known};
+
+// Whether place j holds a known 2a of ballot x with learner a.
+fn is_voter<'a>(
+    known: &'a [u8],
+    forms: &'a [u8],
+    learners: &'a [u8],
+    tops: &'a [u64],
+    a: usize,
+    x: u64,
+    j: usize,
+) -> bool
+    requires { ⌜ (a < 8) × ((j < 128) × (Whole (now known) × (Whole (now forms) × (Whole (now learners) × Whole (now tops))))) ⌝ }
+    ensures { λ r. ⌜ r ≡ isVoter (now (known .entry)) (now (forms .entry)) (now (learners .entry)) (now (tops .entry)) a x j ⌝ }
+{
+    (known[j] != 0) & (forms[j] == 2) & (tops[j] == x) & has_learner(learners[j], a)
+}
+
+// The signers of such places.
+fn voters<'a>(
+    known: &'a [u8],
+    forms: &'a [u8],
+    learners: &'a [u8],
+    tops: &'a [u64],
+    signers: &'a [u8],
+    n: usize,
+    a: usize,
+    x: u64,
+) -> Mask
+    requires { ⌜ (a < 8) × ((n ≤ 128) × (Whole (now known) × (Whole (now forms) × (Whole (now learners) × (Whole (now tops) × Whole (now signers)))))) ⌝ }
+    ensures { λ r. ⌜ ((p : ℕ) → p < 32 → has r p ≡ votersFor (now (known .entry)) (now (forms .entry)) (now (learners .entry)) (now (tops .entry)) (now (signers .entry)) n a x p) ⌝ }
+{
+    let mut mask: Mask = 0;
+    let mut j: usize = 0;
+    while j < n {
+        let on = is_voter(known, forms, learners, tops, a, x, j);
+        mask = with_acceptor(mask, signers[j], on);
+        j += 1;
+    }
+    mask
+}
+
+// Whether they are a quorum of a.
+fn is_decided<'a>(
+    lists: &'a [u8],
+    masks: &'a [Mask],
+    known: &'a [u8],
+    forms: &'a [u8],
+    learners: &'a [u8],
+    tops: &'a [u64],
+    signers: &'a [u8],
+    acceptors: u8,
+    n: usize,
+    a: usize,
+    x: u64,
+) -> bool
+    requires { ⌜ (acceptors ≤ 32) × (Sized (now lists) (now masks) × ((a < 8) × ((n ≤ 128) × (Whole (now known) × (Whole (now forms) × (Whole (now learners) × (Whole (now tops) × Whole (now signers)))))))) ⌝ }
+    ensures { λ r. ⌜ ((m : ℕ) → r ≡ isQuorum (heldGraph acceptors m (now (lists .entry)) (now (masks .entry))) a (votersFor (now (known .entry)) (now (forms .entry)) (now (learners .entry)) (now (tops .entry)) (now (signers .entry)) n a x)) ⌝ }
+{
+    let set = voters(known, forms, learners, tops, signers, n, a, x);
+    is_quorum(lists, masks, acceptors, a, set)
+}
+
+// Whether place j holds a known 2a whose ballot decides, and where `other`, one of another value than v.
+fn is_deciding<'a>(
+    lists: &'a [u8],
+    masks: &'a [Mask],
+    known: &'a [u8],
+    forms: &'a [u8],
+    learners: &'a [u8],
+    tops: &'a [u64],
+    signers: &'a [u8],
+    acceptors: u8,
+    n: usize,
+    a: usize,
+    other: bool,
+    v: u64,
+    j: usize,
+) -> bool
+    requires { ⌜ (j < 128) × ((acceptors ≤ 32) × (Sized (now lists) (now masks) × ((a < 8) × ((n ≤ 128) × (Whole (now known) × (Whole (now forms) × (Whole (now learners) × (Whole (now tops) × Whole (now signers))))))))) ⌝ }
+    ensures { λ r. ⌜ ((m : ℕ) → r ≡ isDeciding (heldGraph acceptors m (now (lists .entry)) (now (masks .entry))) (now (known .entry)) (now (forms .entry)) (now (learners .entry)) (now (tops .entry)) (now (signers .entry)) n a other v j) ⌝ }
+{
+    if (known[j] != 0) & (forms[j] == 2) {
+        let x = tops[j];
+        return is_decided(
+            lists,
+            masks,
+            known,
+            forms,
+            learners,
+            tops,
+            signers,
+            acceptors,
+            n,
+            a,
+            x,
+        )
+            & (!other | (value(x) != v));
+    }
+    false
+}
+
+// The lower of a ballot and the least so far, where `on`.
+fn lower(p: Least, on: bool, x: u64) -> Least
+    ensures { λ r. ⌜ r ≡ lowered p on x ⌝ }
+{
+    if on & (!p.found | (x < p.ballot)) {
+        return Least {
+            found: true,
+            ballot: x,
+        };
+    }
+    p
+}
+
+// The least ballot of such places.
+fn least_deciding<'a>(
+    lists: &'a [u8],
+    masks: &'a [Mask],
+    known: &'a [u8],
+    forms: &'a [u8],
+    learners: &'a [u8],
+    tops: &'a [u64],
+    signers: &'a [u8],
+    acceptors: u8,
+    n: usize,
+    a: usize,
+    other: bool,
+    v: u64,
+) -> Least
+    requires { ⌜ (acceptors ≤ 32) × (Sized (now lists) (now masks) × ((a < 8) × ((n ≤ 128) × (Whole (now known) × (Whole (now forms) × (Whole (now learners) × (Whole (now tops) × Whole (now signers)))))))) ⌝ }
+    ensures { λ r. ⌜ ((m : ℕ) → r ≡ leastOf (isDeciding (heldGraph acceptors m (now (lists .entry)) (now (masks .entry))) (now (known .entry)) (now (forms .entry)) (now (learners .entry)) (now (tops .entry)) (now (signers .entry)) n a other v) (λ j. getD (now (tops .entry)) j 0) n) ⌝ }
+{
+    let mut least = Least {
+        found: false,
+        ballot: 0,
+    };
+    let mut j: usize = 0;
+    while j < n {
+        let on = is_deciding(
+            lists,
+            masks,
+            known,
+            forms,
+            learners,
+            tops,
+            signers,
+            acceptors,
+            n,
+            a,
+            other,
+            v,
+            j,
+        );
+        least = lower(least, on, tops[j]);
+        j += 1;
+    }
+    least
+}
+
+// The report for learner a over the known ones of n held messages.
+pub fn report_for<'a>(
+    lists: &'a [u8],
+    masks: &'a [Mask],
+    known: &'a [u8],
+    kinds: &'a [u8],
+    signers: &'a [u8],
+    low: &'a [u64],
+    high: &'a [u64],
+    forklow: &'a [u64],
+    forkhigh: &'a [u64],
+    tops: &'a [u64],
+    learners: &'a [u8],
+    fresh: &'a [u8],
+    forms: &'a [u8],
+    acceptors: u8,
+    l: usize,
+    n: usize,
+    a: usize,
+) -> Verdict
+    requires { ⌜ (a < l) × ((l ≤ 8) × ((acceptors ≤ 32) × (Sized (now lists) (now masks) × ((n ≤ 128) × (Whole (now known) × (Whole (now forms) × (Whole (now learners) × (Whole (now tops) × Whole (now signers))))))))) ⌝ }
+    ensures { λ r. ⌜ ((t : Table) → length t ≡ n
+        → Known (heldGraph acceptors l (now (lists .entry)) (now (masks .entry))) t (now (kinds .entry)) (now (signers .entry)) (now (low .entry)) (now (high .entry)) (now (forklow .entry)) (now (forkhigh .entry)) (now (tops .entry)) (now (learners .entry)) (now (fresh .entry)) (now (forms .entry))
+        → r ≡ shown (reportAt t (heldGraph acceptors l (now (lists .entry)) (now (masks .entry))) (filter (isKnownIn (now (known .entry))) (below n)) a)) ⌝ }
+{
+    let first = least_deciding(
+        lists,
+        masks,
+        known,
+        forms,
+        learners,
+        tops,
+        signers,
+        acceptors,
+        n,
+        a,
+        false,
+        0,
+    );
+    if !first.found {
+        return Verdict::Undecided;
+    }
+    let second = least_deciding(
+        lists,
+        masks,
+        known,
+        forms,
+        learners,
+        tops,
+        signers,
+        acceptors,
+        n,
+        a,
+        true,
+        value(first.ballot),
+    );
+    if second.found {
+        return Verdict::Split(first.ballot, second.ballot);
+    }
+    Verdict::Decided(first.ballot)
+}

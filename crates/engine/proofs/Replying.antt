@@ -1,0 +1,83 @@
+-- A reply that was formed is that of the round, and what follows on it.
+use mathlib.Core.Path.{_≡_, refl, ap, ap₂, sym, subst, _∙_}
+use mathlib.Core.Bool.{Bool, true, false, _&&_}
+use mathlib.Core.List.{List, [], _++_}
+use Prim.Native.Nat.{ℕ, _+_, _-_, _≤_, _<_}
+use native.Mathlib.Omega.{arith}
+use lib.ListN.{length, take, drop, length-append}
+use lib.Seq.{take-at}
+use Rattle.base.specs.Tests.{_∈_, pick}
+use Rattle.message.specs.Writer.{fronted}
+use Rattle.round.specs.declared.Round.{Round}
+use Rattle.round.specs.declared.Delivered.{Delivered}
+use Rattle.protocol.specs.Message.{Message}
+use Rattle.derive.specs.declared.Note.{Note}
+use Rattle.derive.specs.Notes.{Judged}
+use Rattle.round.specs.Held.{graphOf}
+use Rattle.round.specs.Reply.{replyPlaces, replyBytes, isSent}
+use Rattle.round.specs.Delivery.{Result}
+use Rattle.round.proofs.Chosen.{chosen-out}
+use Rattle.engine.specs.declared.reply.Reply.{Reply}
+use Rattle.engine.specs.Sender.{sender, filled, replyAs}
+use Rattle.engine.specs.Giving.{Gives}
+use Rattle.engine.proofs.Sender.{chosen-length, filled-front, filled-length, reply-places, reply-lent}
+
+abbrev pub lentBy : Round → ℕ → Round
+lentBy r n = sender (r .house) (r .bay) (r .own) (r .last) (r .ids) (r .recent) n
+
+pub record Formed (r : Round) (p : ℕ) (x : Reply) (after : List ℕ) : Type 0 where
+  pub front : take (x .len) after ≡ replyBytes r p
+  pub long : x .len ≡ length (replyBytes r p)
+  pub short : x .len ≤ length after
+  pub listed : take (x .count) (x .places) ≡ replyPlaces r p
+  pub most : x .count ≤ r .held
+  pub whole : r .held ≤ 128 → length (x .places) ≡ 128
+
+pub formed : (r : Round) (p n : ℕ) (x : Reply) (buffer after : List ℕ) → n ≡ r .held
+    → x ≡ replyAs (replyPlaces (lentBy r n) p) (replyBytes (lentBy r n) p) → after ≡ fronted (replyBytes (lentBy r n) p) buffer → Formed r p x after
+formed r p n x buffer after e f g =
+    let z : replyBytes (lentBy r n) p ≡ replyBytes r p = ap (λ (k : ℕ). replyBytes (lentBy r k) p) e ∙ sym (reply-lent r p) in
+    let l : replyPlaces (lentBy r n) p ≡ replyPlaces r p = ap (λ (k : ℕ). replyPlaces (lentBy r k) p) e ∙ reply-places (lentBy r (r .held)) p ∙ sym (reply-places r p) in
+    let a : after ≡ replyBytes r p ++ drop (length (replyBytes r p)) buffer = g ∙ ap (λ (y : List ℕ). fronted y buffer) z in
+    let long : x .len ≡ length (replyBytes r p) = ap (λ (y : Reply). y .len) f ∙ ap length z in
+    let counted : x .count ≡ length (replyPlaces r p) = ap (λ (y : Reply). y .count) f ∙ ap length l in
+    let placed : x .places ≡ filled (replyPlaces r p) = ap (λ (y : Reply). y .places) f ∙ ap filled l in
+    let size : length after ≡ length (replyBytes r p) + length (drop (length (replyBytes r p)) buffer) =
+    ap length a ∙ length-append (replyBytes r p) (drop (length (replyBytes r p)) buffer) in
+    let few = chosen-length r p (r .held) in
+    record {
+      front = ap₂ take long a ∙ take-at (replyBytes r p) (drop (length (replyBytes r p)) buffer) (length (replyBytes r p)) refl;
+      long = long;
+      short = omega arith;
+      listed = ap₂ take counted placed ∙ filled-front (replyPlaces r p);
+      most = omega arith;
+      whole = λ h. ap length placed ∙ filled-length (replyPlaces r p) (omega arith);
+    }
+
+-- a part from the front
+pub front-part : (n : ℕ) (l : List ℕ) → take (n - 0) (drop 0 l) ≡ take n l
+front-part n l = let e : n - 0 ≡ n = omega arith in ap (λ (k : ℕ). take k l) e
+
+-- the places that a reply refers to are held
+pub refers-held : (r : Round) (p : ℕ) (l : List ℕ) → l ≡ replyPlaces r p → (j : ℕ) → j ∈ l → j < r .held
+refers-held r p l e j m = chosen-out r p (r .held) j (subst (λ (y : List ℕ). j ∈ y) e m) .inside
+
+-- what is written to the front of the buffer
+pub put-front : (z b : List ℕ) → take 0 b ++ z ++ drop (0 + length z) b ≡ fronted z b
+put-front z b = let e : 0 + length z ≡ length z = omega arith in ap (λ (k : ℕ). z ++ drop k b) e
+
+-- one of two results
+pub gives-first : (b : Bool) (x y : Result) (r : Delivered) (before after : List ℕ) → b ≡ true → Gives x r before after → Gives (pick b x y) r before after
+gives-first b x y r before after e h = subst (λ (t : Bool). Gives (pick t x y) r before after) (sym e) h
+
+pub gives-second : (b : Bool) (x y : Result) (r : Delivered) (before after : List ℕ) → b ≡ false → Gives y r before after → Gives (pick b x y) r before after
+gives-second b x y r before after e h = subst (λ (t : Bool). Gives (pick t x y) r before after) (sym e) h
+
+-- nothing is written
+pub front-none : (b : List ℕ) → b ≡ fronted [] b
+front-none b = refl
+
+-- z is sent where it is well-formed as a 1b and as a 2a
+pub sent-judged : (r : Round) (m : Message) (x : Note) → Judged (graphOf r) m x → (x .formed1b && x .formed2a) ≡ isSent r m
+unfolding isSent
+sent-judged r m x j = λ k. j .formed1 k && j .formed2 k

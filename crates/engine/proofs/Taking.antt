@@ -1,0 +1,97 @@
+-- The rows of a message in their order, as they are asked.
+use mathlib.Core.Path.{_≡_, refl, sym, subst}
+use mathlib.Core.Bool.{Bool, true, false}
+use mathlib.Core.Option.{Option, none, some}
+use mathlib.Core.List.{List}
+use Prim.Native.Nat.{ℕ}
+use native.Mathlib.Omega.{arith}
+use Rattle.base.specs.Tests.{pick}
+use Rattle.base.specs.declared.refusal.Refusal.{Refusal}
+use Rattle.base.specs.declared.refusal.Refusal.the-variants.{OtherRound, Signer, Known, Reference, Previous, NoProposal, Malformed1b, Malformed2a, Full}
+use Rattle.message.specs.declared.Proposal.{Proposal}
+use Rattle.message.specs.declared.AcceptorMessage.{AcceptorMessage}
+use Rattle.protocol.specs.Ids.{Id}
+use Rattle.protocol.specs.Message.{Message}
+use Rattle.protocol.specs.Table.{Held}
+use Rattle.round.specs.declared.Delivered.{Delivered}
+use Rattle.round.specs.Held.{placeOf}
+use Rattle.round.specs.Delivery.{decidedBy, entered}
+use Rattle.engine.specs.Giving.{Gives, refusal}
+use Rattle.engine.proofs.Replying.{front-none}
+use Rattle.round.specs.declared.Round.{Round}
+use Rattle.round.specs.Rows.{otherRound, foreign, isKnownId, lacks, unchained, ungrounded, malformed1b, malformed2a, full, proposalRows, acceptorRows, firstOf}
+use Rattle.engine.specs.declared.take.Row.the-variants.{Clear, Applies}
+use Rattle.engine.specs.Turning.{rowOf, headRow}
+
+pub proposal-row : (r : Round) (i : Id) (m : Proposal)
+    → firstOf (proposalRows r i m) ≡ pick (otherRound r (m .house) (m .bay)) (some OtherRound) (pick (isKnownId r i) (some Known) (pick (full r i) (some Full) none))
+unfolding proposalRows firstOf
+proposal-row r i m = refl
+
+-- the first row that applies of those of two parts, with two rows between them
+abbrev pub orElse : Option Refusal → Option Refusal → Option Refusal
+orElse none o = o
+orElse (some e) o = some e
+
+pub acceptor-row : (r : Round) (i : Id) (m : AcceptorMessage) (previous : Option Id) (ids : List Id) (tree : Message)
+    → firstOf (acceptorRows r i m previous ids tree)
+    ≡ orElse (headRow r i (m .house) (m .bay) (m .signer))
+    (pick (lacks r ids) (some Reference) (pick (unchained r (m .signer) ids previous) (some Previous)
+    (pick (ungrounded r tree) (some NoProposal) (pick (malformed1b r tree) (some Malformed1b) (pick (malformed2a r tree) (some Malformed2a) (pick (full r i) (some Full) none))))))
+unfolding acceptorRows firstOf
+acceptor-row r i m previous ids tree = step (otherRound r (m .house) (m .bay)) (foreign r (m .signer)) (isKnownId r i) _
+  where
+    step : (a b c : Bool) (o : Option Refusal)
+        → pick a (some OtherRound) (pick b (some Signer) (pick c (some Known) o)) ≡ orElse (pick a (some OtherRound) (pick b (some Signer) (pick c (some Known) none))) o
+    step true b c o = refl
+    step false true c o = refl
+    step false false true o = refl
+    step false false false o = refl
+
+-- a row that is told is the one that applies
+pub row-applies : (o : Option Refusal) (e : Refusal) → rowOf o ≡ Applies e → o ≡ some e
+row-applies none e h = absurd (let z : _≡_ {A = ℕ} 0 1 = cc in omega arith)
+row-applies (some x) e h = cc
+
+pub row-clear : (o : Option Refusal) → rowOf o ≡ Clear → o ≡ none
+row-clear none h = refl
+row-clear (some x) h = absurd (let z : _≡_ {A = ℕ} 0 1 = cc in omega arith)
+
+-- ---- rows 8, 9 and 10: the first that applies is told
+module _ (a b c : Bool) where
+  pub head-other : a ≡ true → Applies OtherRound ≡ rowOf (pick a (some OtherRound) (pick b (some Signer) (pick c (some Known) none)))
+  head-other e = simp e
+
+  pub head-foreign : a ≡ false → b ≡ true → Applies Signer ≡ rowOf (pick a (some OtherRound) (pick b (some Signer) (pick c (some Known) none)))
+  head-foreign e f = simp (e, f)
+
+  pub head-known : a ≡ false → b ≡ false → c ≡ true → Applies Known ≡ rowOf (pick a (some OtherRound) (pick b (some Signer) (pick c (some Known) none)))
+  head-known e f g = simp (e, f, g)
+
+  pub head-clear : a ≡ false → b ≡ false → c ≡ false → Clear ≡ rowOf (pick a (some OtherRound) (pick b (some Signer) (pick c (some Known) none)))
+  head-clear e f g = simp (e, f, g)
+
+-- ---- rows 8, 10 and 16 of a proposal
+module _ (a b c : Bool) where
+  abbrev pub three : Option Refusal
+  three = pick a (some OtherRound) (pick b (some Known) (pick c (some Full) none))
+
+  pub three-other : a ≡ true → three ≡ some OtherRound
+  three-other e = simp e
+
+  pub three-known : a ≡ false → b ≡ true → three ≡ some Known
+  three-known e f = simp (e, f)
+
+  pub three-full : a ≡ false → b ≡ false → c ≡ true → three ≡ some Full
+  three-full e f g = simp (e, f, g)
+
+  pub three-none : a ≡ false → b ≡ false → c ≡ false → three ≡ none
+  three-none e f g = simp (e, f, g)
+
+-- ---- refused by the row that applies, or entered
+module _ (H : List ℕ → Id) (r : Round) (i : Id) (h : Held) (o : Option Refusal) (x : Delivered) (before after : List ℕ) where
+  pub taken-refused : (e : Refusal) → o ≡ some e → x ≡ refusal r e → Gives (decidedBy H r i h o) x before before
+  taken-refused e q p = subst (λ (y : Option Refusal). Gives (decidedBy H r i h y) x before before) (sym q) (p, front-none before)
+
+  pub taken-entered : o ≡ none → Gives (entered H r h (placeOf r i)) x before after → Gives (decidedBy H r i h o) x before after
+  taken-entered q g = subst (λ (y : Option Refusal). Gives (decidedBy H r i h y) x before after) (sym q) g

@@ -1,0 +1,155 @@
+-- What the work-out pass asks of a round, and what it says of one.
+use mathlib.Core.Path.{_≡_, refl, sym, ap₂, subst}
+use mathlib.Core.Logic.{_⊎_, inl, inr}
+use mathlib.Core.Bool.{true, false, _&&_}
+use mathlib.Core.List.{List, [], _∷_, List·Memᴰ·head, List·Memᴰ·tail}
+use Prim.Native.Nat.{ℕ, zero, suc, _≤_, _<_}
+use native.Mathlib.Omega.{arith}
+use lib.Dec.{T, ltb, leb, ltb→lt, leb→le}
+use lib.ListN.{length, getD}
+use borrow.Author.Tests.{le-leb, lt-leb}
+use Rattle.base.specs.Tests.{_∈_, all, filter, below}
+use Rattle.base.specs.declared.refusal.Refusal.the-variants.{Argument}
+use Rattle.base.proofs.Tests.{and-l, and-r, or-out, all-out}
+use Rattle.protocol.specs.Report as paper
+use Rattle.graph.specs.LearnerGraph.{LearnerGraph}
+use Rattle.graph.specs.Held.{heldGraph, Sized}
+use Rattle.protocol.specs.Table.{Held, Table, nodeBy, tree}
+use Rattle.protocol.specs.Places.{reportAt}
+use Rattle.protocol.proofs.Growth.{length-tabulate}
+use Rattle.derive.specs.declared.Note.{Note}
+use Rattle.derive.specs.Deciding.{isKnownIn, shown}
+use Rattle.derive.specs.Notes.{Judged}
+use Rattle.derive.specs.Records.{tableIn, Fit, Lengths}
+use Rattle.round.specs.declared.Round.{Round}
+use Rattle.round.specs.declared.Report.the-variants.{Refused}
+use Rattle.round.specs.Held.{graphOf, knownMessages, tableOf, recordAt, referencesAt, isProposalAt}
+use Rattle.round.specs.Handed.{listFits, graphFits, refersBack, fits}
+use Rattle.round.specs.Rows.{messageOf}
+use Rattle.round.specs.Report.{told, reported}
+use Rattle.round.proofs.Fitting.{Fitting, place-cases}
+use Rattle.engine.specs.Lent.{answerTo}
+
+module _ (r : Round) where
+  -- the table of the arrays is the round's
+  pub table-lent : tableOf r ≡ tableIn (r .ids) (r .kinds) (r .signers) (r .ballots) (r .previous) (r .counts) (r .references) (r .held)
+  table-lent = refl
+
+  pub table-length : length (tableOf r) ≡ r .held
+  table-length = length-tabulate (r .held) (recordAt r)
+
+  -- an acceptor message refers to earlier places
+  back-in : (p : ℕ) → T (refersBack r p) → isProposalAt r p ≡ false → (j : ℕ) → j ∈ referencesAt r p → j < p
+  unfolding refersBack
+  back-in p h e j m =
+      step (or-out (isProposalAt r p) (leb 1 (getD (r .counts) p 0) && all (λ j. ltb j p) (referencesAt r p)) h)
+    where
+      step : T (isProposalAt r p) ⊎ T (leb 1 (getD (r .counts) p 0) && all (λ j. ltb j p) (referencesAt r p)) → j < p
+      step (inl t) = absurd (subst T e t)
+      step (inr t) = ltb→lt j p (all-out (λ (i : ℕ). ltb i p) m (and-r (leb 1 (getD (r .counts) p 0)) (all (λ i. ltb i p) (referencesAt r p)) t))
+
+  pub fit-lent : Fitting r → Fit (r .held) (r .kinds) (r .previous) (r .counts) (r .references)
+  fit-lent f =
+      record {
+        held = f .most;
+        count = f .counts;
+        named = λ p l. place-cases r (getD (r .previous) p 0) (f .previous p l);
+        back = λ p l e j m. back-in p (f .back p l) e j m;
+      }
+
+  -- row 17 bounds the graph's numbers
+  pub acceptors-fit : Fitting r → r .graph .acceptors ≤ 16
+  unfolding graphFits
+  acceptors-fit f =
+      let a = leb 1 (r .graph .acceptors) in
+      let b = leb (r .graph .acceptors) 16 in
+      let d = leb 1 (r .graph .learners) in
+      let e = leb (r .graph .learners) 8 in
+      let g = all (listFits (r .graph)) (below 44) in
+      leb→le (r .graph .acceptors) 16 (and-r a b (and-l (a && b) d (and-l (a && b && d) e (and-l (a && b && d && e) g (f .graph)))))
+
+  pub learners-fit : Fitting r → r .graph .learners ≤ 8
+  unfolding graphFits
+  learners-fit f =
+      let a = leb 1 (r .graph .acceptors) in
+      let b = leb (r .graph .acceptors) 16 in
+      let d = leb 1 (r .graph .learners) in
+      let e = leb (r .graph .learners) 8 in
+      let g = all (listFits (r .graph)) (below 44) in
+      leb→le (r .graph .learners) 8 (and-r (a && b && d) e (and-l (a && b && d && e) g (f .graph)))
+
+  -- the lengths of the arrays
+  pub record Sizes : Type 0 where
+    pub lists : length (r .graph .counts) ≡ 44
+    pub masks : length (r .graph .masks) ≡ 352
+    pub ids : length (r .ids) ≡ 4096
+    pub kinds : length (r .kinds) ≡ 128
+    pub signers : length (r .signers) ≡ 128
+    pub ballots : length (r .ballots) ≡ 128
+    pub previous : length (r .previous) ≡ 128
+    pub counts : length (r .counts) ≡ 128
+    pub references : length (r .references) ≡ 16384
+
+  -- what the pass asks, where l is the number of learners and n that of held messages
+  pub work-asked : Fitting r → Sizes → (l n : ℕ) → l ≡ r .graph .learners → n ≡ r .held
+      → (r .graph .acceptors ≤ 32)
+      × ((l ≤ 8)
+      × (Sized (r .graph .counts) (r .graph .masks)
+      × (Fit n (r .kinds) (r .previous) (r .counts) (r .references)
+      × Lengths (r .ids) (r .kinds) (r .signers) (r .ballots) (r .previous) (r .counts) (r .references))))
+  work-asked f z l n e g =
+      let a = acceptors-fit f in
+      let b = learners-fit f in (
+        omega arith,
+        (
+          omega arith,
+          (
+            (z .lists, z .masks),
+            (
+              subst (λ (k : ℕ). Fit k (r .kinds) (r .previous) (r .counts) (r .references)) (sym g) (fit-lent f),
+              record { idsFit = z .ids; kindsFit = z .kinds; signersFit = z .signers; ballotsFit = z .ballots; previousFit = z .previous; countsFit = z .counts; referencesFit = z .references },
+            ),
+          ),
+        ),
+      )
+
+  abbrev pub tableTo : ℕ → Table
+  tableTo n = tableIn (r .ids) (r .kinds) (r .signers) (r .ballots) (r .previous) (r .counts) (r .references) n
+
+  abbrev pub graphTo : ℕ → LearnerGraph
+  graphTo l = heldGraph (r .graph .acceptors) l (r .graph .counts) (r .graph .masks)
+
+  -- what the pass says is said of the round
+  pub reported-lent : (l n a : ℕ) → l ≡ r .graph .learners → n ≡ r .held
+      → reportAt (tableTo n) (graphTo l) (filter (isKnownIn (r .known)) (below n)) a ≡ paper.report (graphOf r) (knownMessages r) a
+  reported-lent l n a e g = ap₂ (λ (x y : ℕ). reportAt (tableTo y) (graphTo x) (filter (isKnownIn (r .known)) (below y)) a) e g
+
+  pub judged-lent : (l n : ℕ) → l ≡ r .graph .learners → n ≡ r .held → (h : Held) (x : Note) → Judged (graphTo l) (nodeBy (tree (tableTo n)) h) x → Judged (graphOf r) (messageOf r h) x
+  judged-lent l n e g h x j =
+      subst (λ (k : ℕ). Judged (graphTo k) (messageOf r h) x) e (subst (λ (k : ℕ). Judged (graphTo l) (nodeBy (tree (tableTo k)) h) x) g j)
+
+-- places that are held are below 128
+pub places-below : (l : List ℕ) (n : ℕ) → n ≤ 128 → ((j : ℕ) → j ∈ l → j < n) → (i : ℕ) → getD l i 0 < 128
+places-below [] n m h i = omega arith
+places-below (x ∷ l) n m h zero = let k = h x (List·Memᴰ·head refl) in omega arith
+places-below (x ∷ l) n m h (suc i) = places-below l n m (λ j k. h j (List·Memᴰ·tail k)) i
+
+-- ---- the report: 17, or what the verdict says
+module _ (r : Round) (a : ℕ) where
+  pub refused-round : fits r ≡ false → Refused Argument ≡ reported r a
+  unfolding reported
+  refused-round e = simp e
+
+  pub refused-learner : fits r ≡ true → r .graph .learners ≤ a → Refused Argument ≡ reported r a
+  unfolding reported
+  refused-learner e h = simp (e, le-leb (r .graph .learners) a h)
+
+  pub reported-told : fits r ≡ true → a < r .graph .learners → told (paper.report (graphOf r) (knownMessages r) a) ≡ reported r a
+  unfolding reported
+  reported-told e h = simp (e, lt-leb (r .graph .learners) a h)
+
+-- a verdict is answered as the report says
+pub told-shown : (v : paper.Verdict) → answerTo (shown v) ≡ told v
+told-shown paper.undecided = refl
+told-shown (paper.decided x) = refl
+told-shown (paper.split x y) = refl

@@ -1,0 +1,14 @@
+use mathlib.Core.Path.{ap}
+use Rattle.engine.specs.Giving.{accepts}
+use borrow.Author.Needs.{needs}
+use Rattle.engine.proofs.answer.join.Statement.{statement}
+use Rattle.engine.proofs.answer.join.Tie as tie
+
+joined-requires : tie.Need-joined-requires
+joined-requires c κs = search needs
+
+returns : tie.Need-returns
+returns c = ap accepts (c .joined .ensures)
+
+pub join-spec : {M : Type 1} → statement M
+join-spec = tie.close (tie.spec joined-requires returns)

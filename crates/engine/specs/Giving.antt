@@ -1,0 +1,64 @@
+-- What the steps of a delivery answer and leave in the reply buffer.
+use mathlib.Core.Path.{_≡_}
+use mathlib.Core.Bool.{not}
+use mathlib.Core.Option.{Option}
+use mathlib.Core.List.{List}
+use Prim.Native.Nat.{ℕ, _≤_, _<_}
+use lib.Dec.{T}
+use lib.ListN.{length}
+use Rattle.base.specs.Tests.{_∈_}
+use Rattle.base.specs.declared.refusal.Refusal.{Refusal}
+use Rattle.message.specs.Writer.{fronted}
+use Rattle.protocol.specs.Ids.{Id}
+use Rattle.round.specs.declared.Round.{Round}
+use Rattle.round.specs.declared.Delivered.{Delivered}
+use Rattle.round.specs.declared.Outcome.the-variants.{Accepted, Replied, Refused}
+use Rattle.round.specs.Limits.{maxHeld, listening, replyLen}
+use Rattle.round.specs.Held.{named}
+use Rattle.round.specs.Handed.{placeFits, fits}
+use Rattle.round.specs.Rows.{full}
+use Rattle.round.specs.Delivery.{Result, previousPlace}
+
+-- the answer and the buffer afterwards are those of a result
+abbrev pub Gives : Result → Delivered → List ℕ → List ℕ → Type 0
+Gives d r before after = (r ≡ record { outcome = d .outcome; round = d .round }) × (after ≡ fronted (d .reply) before)
+
+-- accepted with no reply, and with one of n bytes
+abbrev pub accepts : Round → Delivered
+accepts r = record { outcome = Accepted; round = r }
+
+abbrev pub replies : ℕ → Round → Delivered
+replies n r = record { outcome = Replied n; round = r }
+
+-- refused, and the round as it was
+abbrev pub refusal : Round → Refusal → Delivered
+refusal r e = record { outcome = Refused e; round = r }
+
+-- ---- what is asked of a round that answers the message at place p: it passes row 17, holds the message, and has room for a reply
+pub record Answerable (r : Round) (p : ℕ) (buffer : List ℕ) : Type 0 where
+  pub fit : T (fits r)
+  pub here : p < r .held
+  pub room : r .own < listening → r .held < maxHeld
+  pub long : replyLen ≤ length buffer
+
+-- of one that sends a reply, which refers to the first `count` of some places
+pub record Sendable (r : Round) (places : List ℕ) (count : ℕ) : Type 0 where
+  pub fit : T (fits r)
+  pub voting : r .own < listening
+  pub room : r .held < maxHeld
+  pub most : count ≤ maxHeld
+  pub listed : count ≤ length places
+
+-- ---- of a message that enters: the round passes row 17, and row 16 does not apply
+pub record Enterable (r : Round) (i : Id) (buffer : List ℕ) : Type 0 where
+  pub fit : T (fits r)
+  pub free : T (not (full r i))
+  pub long : replyLen ≤ length buffer
+
+-- an acceptor message refers to 1 to 128 held messages, and its previous id is none or held
+pub record Referring (r : Round) (previous : Option Id) (places : List ℕ) : Type 0 where
+  pub least : 1 ≤ length places
+  pub most : length places ≤ maxHeld
+  pub earlier : (j : ℕ) → j ∈ places → j < r .held
+  pub placed : T (placeFits r (previousPlace r previous))
+  pub named′ : named r (previousPlace r previous) ≡ previous

@@ -1,0 +1,27 @@
+-- Rows 8 to 16 of an acceptor message in two parts, as they are asked: those before its references, and those after.
+use mathlib.Core.Bool.{Bool, not}
+use mathlib.Core.Option.{Option, none, some}
+use Prim.Native.Nat.{ℕ}
+use Rattle.base.specs.Tests.{pick}
+use Rattle.base.specs.declared.refusal.Refusal.{Refusal}
+use Rattle.base.specs.declared.refusal.Refusal.the-variants.{OtherRound, Signer, Known, NoProposal, Malformed1b, Malformed2a, Full}
+use Rattle.protocol.specs.Ids.{Id}
+use Rattle.round.specs.declared.Round.{Round}
+use Rattle.round.specs.Rows.{otherRound, foreign, isKnownId}
+use Rattle.engine.specs.declared.take.Row.{Row}
+use Rattle.engine.specs.declared.take.Row.the-variants.{Clear, Applies}
+
+-- a row as it is told
+abbrev pub rowOf : Option Refusal → Row
+rowOf none = Clear
+rowOf (some e) = Applies e
+
+-- rows 8, 9 and 10
+abbrev pub headRow : Round → Id → ℕ → ℕ → ℕ → Option Refusal
+headRow r i house bay signer =
+    pick (otherRound r house bay) (some OtherRound) (pick (foreign r signer) (some Signer) (pick (isKnownId r i) (some Known) none))
+
+-- rows 13 to 16, where the message has a proposal beneath it, is well-formed as a 1b and as a 2a, and lacks room
+abbrev pub formRow : Bool → Bool → Bool → Bool → Option Refusal
+formRow grounded first second lacks =
+    pick (not grounded) (some NoProposal) (pick (not first) (some Malformed1b) (pick (not second) (some Malformed2a) (pick lacks (some Full) none)))

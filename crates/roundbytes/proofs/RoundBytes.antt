@@ -1,0 +1,381 @@
+-- Laws of the layout: numbers one behind the other; a round that is written reads back, and bytes that are read are written again.
+use mathlib.Core.Path.{_≡_, refl, sym, ap, ap₂, _∙_}
+use mathlib.Core.List.{List, [], _∷_, _++_, append-assoc, append-nil}
+use Prim.Native.Nat.{ℕ, zero, suc, _+_, _-_, _*_, _/_, _%_, _^_, _≤_, _<_}
+use native.Mathlib.Nat.{add-zero, zero-add, add-comm, mul-suc}
+use native.Mathlib.Numerals.{add-one}
+use native.Mathlib.Omega.{arith}
+use lib.ListN.{length, getD, take, drop, replicate, length-append, length-replicate}
+use lib.Seq.{split-at, take-suc, take-all, take-at, drop-at, getD-at, length-take-le}
+use Rattle.base.specs.Bytes.{be, bytes, part, putAt, Octets}
+use Rattle.base.proofs.Bytes.{bytes-length, part-length, part-suc, part-add, be-at, be-bytes, bytes-be}
+use Rattle.roundbytes.proofs.Buffers.{putAt-more, putAt-whole}
+use Rattle.round.specs.declared.Round.{Round}
+use Rattle.roundbytes.specs.Layout.{words, numbers, graphBytes, numberBytes, roundLen, roundBytes, graphIn, roundIn, Sized, Laid, RoundReadsBack, BytesWrittenBack}
+
+-- ---- numbers one behind the other
+pub words-append : (w : ℕ) (a b : List ℕ) → words w (a ++ b) ≡ words w a ++ words w b
+unfolding words
+words-append w [] b = refl
+words-append w (x ∷ a) b = ap (λ (y : List ℕ). bytes w x ++ y) (words-append w a b) ∙ sym (append-assoc (bytes w x) (words w a) (words w b))
+
+pub words-snoc : (w : ℕ) (l : List ℕ) (x : ℕ) → words w (l ++ (x ∷ [])) ≡ words w l ++ bytes w x
+unfolding words
+words-snoc w l x = words-append w l (x ∷ []) ∙ ap (λ (y : List ℕ). words w l ++ y) (append-nil (bytes w x))
+
+pub words-length : (w : ℕ) (l : List ℕ) → length (words w l) ≡ w * length l
+unfolding words
+words-length w [] = omega arith
+words-length w (x ∷ l) = length-append (bytes w x) (words w l) ∙ ap₂ _+_ (bytes-length w x) (words-length w l) ∙ add-comm w (w * length l) ∙ sym (mul-suc w (length l))
+
+-- ---- four bytes as two and two
+pub bytes-four : (x : ℕ) → bytes 2 (x / 65536) ++ bytes 2 (x % 65536) ≡ bytes 4 x
+unfolding bytes
+bytes-four x =
+    let a : x / 65536 / 256 % 256 ≡ x / 256 / 256 / 256 % 256 = omega arith in
+    let b : x / 65536 % 256 ≡ x / 256 / 256 % 256 = omega arith in
+    let c : x % 65536 / 256 % 256 ≡ x / 256 % 256 = omega arith in
+    let d : x % 65536 % 256 ≡ x % 256 = omega arith in
+    λ i. a i ∷ b i ∷ c i ∷ d i ∷ []
+
+pub be-four : (s : List ℕ) (at : ℕ) → be 2 s at * 65536 + be 2 s (at + 2) ≡ be 4 s at
+unfolding be
+be-four s at =
+    let i : getD s (at + 2 + 0) 0 ≡ getD s (at + 2) 0 = ap (λ (k : ℕ). getD s k 0) (add-zero (at + 2)) in
+    let e : at + 2 + 1 ≡ at + 3 = omega arith in
+    let j : getD s (at + 2 + 1) 0 ≡ getD s (at + 3) 0 = ap (λ (k : ℕ). getD s k 0) e in
+    omega arith
+
+-- ---- an array of zeros that a part is copied to
+pub copied : (n : ℕ) (s : List ℕ) (at : ℕ) (m : List ℕ) → at + n ≤ length s → m ≡ putAt (replicate n 0) 0 (take (at + n - at) (drop at s)) → m ≡ part n s at
+copied n s at m h e =
+    let k : at + n - at ≡ n = omega arith in
+    e ∙ ap (λ (j : ℕ). putAt (replicate n 0) 0 (part j s at)) k ∙ putAt-whole (replicate n 0) (part n s at) (length-replicate n 0 ∙ sym (part-length n s at h))
+
+-- ---- how long the parts are
+long : (a b : List ℕ) (m n : ℕ) → length a ≡ m → length b ≡ n → length (a ++ b) ≡ m + n
+long a b m n e f = length-append a b ∙ ap₂ _+_ e f
+
+module _ (r : Round) (h : Sized r) where
+  graph-long : length (graphBytes (r .graph)) ≡ 1454
+  graph-long =
+      let g = r .graph in
+      long ((g .acceptors ∷ g .learners ∷ []) ++ g .counts) (words 4 (g .masks)) 46 1408 (long (g .acceptors ∷ g .learners ∷ []) (g .counts) 2 44 refl (h .listCounts))
+      (words-length 4 (g .masks) ∙ ap (λ (k : ℕ). 4 * k) (h .masks))
+
+  numbers-long : length (numberBytes (r .house) (r .bay) (r .own) (r .held) (r .last)) ≡ 8
+  unfolding bytes
+  numbers-long = refl
+
+  -- the six parts that the writer puts in, one behind the other, are the round
+  pub written : (b m₁ m₂ m₃ m₄ m₅ m₆ : List ℕ) → roundLen ≤ length b → m₁ ≡ putAt b 0 (graphBytes (r .graph))
+      → m₂ ≡ putAt m₁ 1454 (numberBytes (r .house) (r .bay) (r .own) (r .held) (r .last)) → m₃ ≡ putAt m₂ 1462 (r .ids ++ r .kinds ++ r .signers)
+      → m₄ ≡ putAt m₃ 5814 (words 8 (r .ballots)) → m₅ ≡ putAt m₄ 6838 (r .previous ++ r .counts ++ r .references) → m₆ ≡ putAt m₅ 23478 (r .known ++ r .recent)
+      → m₆ ≡ roundBytes r ++ drop (length (roundBytes r)) b
+  written b m₁ m₂ m₃ m₄ m₅ m₆ fit e₁ e₂ e₃ e₄ e₅ e₆ =
+      let g = graphBytes (r .graph) in
+      let n = numberBytes (r .house) (r .bay) (r .own) (r .held) (r .last) in
+      let i = r .ids ++ r .kinds ++ r .signers in
+      let w = words 8 (r .ballots) in
+      let p = r .previous ++ r .counts ++ r .references in
+      let k = r .known ++ r .recent in
+      let l₂ : length (g ++ n) ≡ 1462 = long g n 1454 8 graph-long numbers-long in
+      let l₃ : length (g ++ n ++ i) ≡ 5814 = long (g ++ n) i 1462 4352 l₂ (long (r .ids ++ r .kinds) (r .signers) 4224 128 (long (r .ids) (r .kinds) 4096 128 (h .ids) (h .kinds)) (h .signers)) in
+      let l₄ : length (g ++ n ++ i ++ w) ≡ 6838 = long (g ++ n ++ i) w 5814 1024 l₃ (words-length 8 (r .ballots) ∙ ap (λ (x : ℕ). 8 * x) (h .ballots)) in
+      let l₅ : length (g ++ n ++ i ++ w ++ p) ≡ 23478 =
+      long (g ++ n ++ i ++ w) p 6838 16640 l₄ (long (r .previous ++ r .counts) (r .references) 256 16384 (long (r .previous) (r .counts) 128 128 (h .previous) (h .counts)) (h .references)) in
+      let f₂ = putAt-more b m₁ m₂ g n 0 1454 (omega arith) (zero-add (length g) ∙ graph-long) e₁ e₂ in
+      let f₃ = putAt-more b m₂ m₃ (g ++ n) i 0 1462 (omega arith) (zero-add (length (g ++ n)) ∙ l₂) f₂ e₃ in
+      let f₄ = putAt-more b m₃ m₄ (g ++ n ++ i) w 0 5814 (omega arith) (zero-add (length (g ++ n ++ i)) ∙ l₃) f₃ e₄ in
+      let f₅ = putAt-more b m₄ m₅ (g ++ n ++ i ++ w) p 0 6838 (omega arith) (zero-add (length (g ++ n ++ i ++ w)) ∙ l₄) f₄ e₅ in
+      let f₆ = putAt-more b m₅ m₆ (g ++ n ++ i ++ w ++ p) k 0 23478 (omega arith) (zero-add (length (g ++ n ++ i ++ w ++ p)) ∙ l₅) f₅ e₆ in
+      f₆ ∙ ap (putAt b 0) (regroup (g ++ n) (r .ids) (r .kinds) (r .signers) w (r .previous) (r .counts) (r .references) (r .known) (r .recent))
+      ∙ ap (λ (x : ℕ). roundBytes r ++ drop x b) (zero-add (length (roundBytes r)))
+    where
+      regroup : (x a₁ a₂ a₃ w b₁ b₂ b₃ c₁ c₂ : List ℕ)
+          → x ++ (a₁ ++ a₂ ++ a₃) ++ w ++ (b₁ ++ b₂ ++ b₃) ++ (c₁ ++ c₂) ≡ x ++ a₁ ++ a₂ ++ a₃ ++ w ++ b₁ ++ b₂ ++ b₃ ++ c₁ ++ c₂
+      regroup x a₁ a₂ a₃ w b₁ b₂ b₃ c₁ c₂ = simp append-assoc
+
+-- ---- bytes that are read are written again
+grow : (at n m : ℕ) (s p v : List ℕ) → p ≡ part n s at → v ≡ part m s (at + n) → p ++ v ≡ part (n + m) s at
+grow at n m s p v e f = ap₂ _++_ e f ∙ sym (part-add n m s at)
+
+two : (s : List ℕ) (at : ℕ) → at + 2 ≤ length s → getD s at 0 ∷ getD s (at + 1) 0 ∷ [] ≡ part 2 s at
+two s at h =
+    let e : at + 1 ≡ suc at = add-one at in
+    ap (λ (k : ℕ). getD s at 0 ∷ getD s k 0 ∷ []) e ∙ sym (part-suc 1 s at (omega arith) ∙ ap (λ (x : List ℕ). getD s at 0 ∷ x) (part-suc 0 s (suc at) (omega arith)))
+
+words-numbers : (w n : ℕ) (s : List ℕ) (at : ℕ) → Octets s → at + w * n ≤ length s → words w (numbers w n s at) ≡ part (w * n) s at
+unfolding words numbers
+words-numbers w zero s at o h = let k : w * 0 ≡ 0 = omega arith in sym (ap (λ (n : ℕ). take n (drop at s)) k)
+words-numbers w (suc n) s at o h =
+    let k : w * suc n ≡ w * n + w = mul-suc w n in
+    words-snoc w (numbers w n s at) (be w s (at + w * n)) ∙ ap₂ _++_ (words-numbers w n s at o (omega arith)) (bytes-be w s (at + w * n) o (omega arith))
+    ∙ sym (ap (λ (m : ℕ). part m s at) k ∙ part-add (w * n) w s at)
+
+pub bytes-written-back : BytesWrittenBack
+bytes-written-back s o h =
+    let b₂ : (at : ℕ) → at + 2 ≤ length s → bytes 2 (be 2 s at) ≡ part 2 s at = λ at k. bytes-be 2 s at o k in
+    let g₁ = grow 0 2 44 s (getD s 0 0 ∷ getD s 1 0 ∷ []) (part 44 s 2) (two s 0 (omega arith)) refl in
+    let g = grow 0 46 1408 s ((getD s 0 0 ∷ getD s 1 0 ∷ []) ++ part 44 s 2) (words 4 (numbers 4 352 s 46)) g₁ (words-numbers 4 352 s 46 o (omega arith)) in
+    let n₁ = grow 1454 2 2 s (bytes 2 (be 2 s 1454)) (bytes 2 (be 2 s 1456)) (b₂ 1454 (omega arith)) (b₂ 1456 (omega arith)) in
+    let n₂ = grow 1454 4 2 s (bytes 2 (be 2 s 1454) ++ bytes 2 (be 2 s 1456)) (bytes 2 (be 2 s 1458)) n₁ (b₂ 1458 (omega arith)) in
+    let n₃ = grow 1454 6 2 s (bytes 2 (be 2 s 1454) ++ bytes 2 (be 2 s 1456) ++ bytes 2 (be 2 s 1458)) (getD s 1460 0 ∷ getD s 1461 0 ∷ []) n₂ (two s 1460 (omega arith)) in
+    let r = roundIn s in
+    let x = graphBytes (graphIn s) in
+    let n = numberBytes (r .house) (r .bay) (r .own) (r .held) (r .last) in
+    let e₁ = grow 0 1454 8 s x n g n₃ in
+    let e₂ = grow 0 1462 4096 s (x ++ n) (r .ids) e₁ refl in
+    let e₃ = grow 0 5558 128 s (x ++ n ++ r .ids) (r .kinds) e₂ refl in
+    let e₄ = grow 0 5686 128 s (x ++ n ++ r .ids ++ r .kinds) (r .signers) e₃ refl in
+    let e₅ = grow 0 5814 1024 s (x ++ n ++ r .ids ++ r .kinds ++ r .signers) (words 8 (r .ballots)) e₄ (words-numbers 8 128 s 5814 o (omega arith)) in
+    let e₆ = grow 0 6838 128 s (x ++ n ++ r .ids ++ r .kinds ++ r .signers ++ words 8 (r .ballots)) (r .previous) e₅ refl in
+    let e₇ = grow 0 6966 128 s (x ++ n ++ r .ids ++ r .kinds ++ r .signers ++ words 8 (r .ballots) ++ r .previous) (r .counts) e₆ refl in
+    let e₈ = grow 0 7094 16384 s (x ++ n ++ r .ids ++ r .kinds ++ r .signers ++ words 8 (r .ballots) ++ r .previous ++ r .counts) (r .references) e₇ refl in
+    let e₉ = grow 0 23478 128 s (x ++ n ++ r .ids ++ r .kinds ++ r .signers ++ words 8 (r .ballots) ++ r .previous ++ r .counts ++ r .references) (r .known) e₈ refl in
+    grow 0 23606 128 s (x ++ n ++ r .ids ++ r .kinds ++ r .signers ++ words 8 (r .ballots) ++ r .previous ++ r .counts ++ r .references ++ r .known) (r .recent) e₉ refl
+
+-- ---- a round that was written is read back
+-- what stands between p and t
+between : (p v t : List ℕ) (at n : ℕ) → length p ≡ at → length v ≡ n → part n (p ++ (v ++ t)) at ≡ v
+between p v t at n e f = ap (take n) (drop-at p (v ++ t) at e) ∙ take-at v t n f
+
+numbers-take : (w : ℕ) (l p t : List ℕ) (at : ℕ) → length p ≡ at → ((i : ℕ) → getD l i 0 < 256 ^ w) → (n : ℕ) → n ≤ length l → numbers w n (p ++ (words w l ++ t)) at ≡ take n l
+unfolding numbers words
+numbers-take w l p t at e f zero h = refl
+numbers-take w l p t at e f (suc n) h =
+    let x = getD l n 0 in
+    let a = words w (take n l) in
+    let q = words w (drop (suc n) l) ++ t in
+    let s = p ++ (words w l ++ t) in
+    let g : words w l ≡ a ++ (bytes w x ++ words w (drop (suc n) l)) = ap (words w) (split-at l n 0 (omega arith)) ∙ words-append w (take n l) (x ∷ drop (suc n) l) in
+    let k : s ≡ p ++ a ++ (bytes w x ++ q) = ap (λ (y : List ℕ). p ++ (y ++ t)) g ∙ simp append-assoc in
+    let j : length (p ++ a) ≡ at + w * n = long p a at (w * n) e (words-length w (take n l) ∙ ap (λ (m : ℕ). w * m) (length-take-le n l (omega arith))) in
+    let y : be w s (at + w * n) ≡ x = ap (λ (z : List ℕ). be w z (at + w * n)) k ∙ be-at w (p ++ a) (bytes w x ++ q) (at + w * n) j ∙ be-bytes w x q (f n) in
+    ap₂ (λ (u : List ℕ) (v : ℕ). u ++ (v ∷ [])) (numbers-take w l p t at e f n (omega arith)) y ∙ sym (take-suc l n 0 (omega arith))
+
+numbers-words : (w : ℕ) (l p t : List ℕ) (at n : ℕ) → length p ≡ at → length l ≡ n → ((i : ℕ) → getD l i 0 < 256 ^ w) → numbers w n (p ++ (words w l ++ t)) at ≡ l
+numbers-words w l p t at n e k f = numbers-take w l p t at e f n (omega arith) ∙ take-all n l (omega arith)
+
+module _ (r : Round) (t : List ℕ) (h : Laid r) where
+  -- all in front of a field, from the graph on
+  abbrev graph° : List ℕ
+  graph° = graphBytes (r .graph)
+
+  abbrev numbers° : List ℕ
+  numbers° = graph° ++ numberBytes (r .house) (r .bay) (r .own) (r .held) (r .last)
+
+  abbrev ids° : List ℕ
+  ids° = numbers° ++ r .ids
+
+  abbrev kinds° : List ℕ
+  kinds° = ids° ++ r .kinds
+
+  abbrev signers° : List ℕ
+  signers° = kinds° ++ r .signers
+
+  abbrev ballots° : List ℕ
+  ballots° = signers° ++ words 8 (r .ballots)
+
+  abbrev previous° : List ℕ
+  previous° = ballots° ++ r .previous
+
+  abbrev counts° : List ℕ
+  counts° = previous° ++ r .counts
+
+  abbrev references° : List ℕ
+  references° = counts° ++ r .references
+
+  abbrev known° : List ℕ
+  known° = references° ++ r .known
+
+  -- all from a field on
+  abbrev °recent : List ℕ
+  °recent = r .recent ++ t
+
+  abbrev °known : List ℕ
+  °known = r .known ++ °recent
+
+  abbrev °references : List ℕ
+  °references = r .references ++ °known
+
+  abbrev °counts : List ℕ
+  °counts = r .counts ++ °references
+
+  abbrev °previous : List ℕ
+  °previous = r .previous ++ °counts
+
+  abbrev °ballots : List ℕ
+  °ballots = words 8 (r .ballots) ++ °previous
+
+  abbrev °signers : List ℕ
+  °signers = r .signers ++ °ballots
+
+  abbrev °kinds : List ℕ
+  °kinds = r .kinds ++ °signers
+
+  abbrev °ids : List ℕ
+  °ids = r .ids ++ °kinds
+
+  abbrev °numbers : List ℕ
+  °numbers = numberBytes (r .house) (r .bay) (r .own) (r .held) (r .last) ++ °ids
+
+  -- the bytes, parted in front of a field
+  abbrev all : List ℕ
+  all = roundBytes r ++ t
+
+  at-recent : all ≡ known° ++ °recent
+  at-recent = append-assoc known° (r .recent) t
+
+  at-known : all ≡ references° ++ °known
+  at-known = at-recent ∙ append-assoc references° (r .known) °recent
+
+  at-references : all ≡ counts° ++ °references
+  at-references = at-known ∙ append-assoc counts° (r .references) °known
+
+  at-counts : all ≡ previous° ++ °counts
+  at-counts = at-references ∙ append-assoc previous° (r .counts) °references
+
+  at-previous : all ≡ ballots° ++ °previous
+  at-previous = at-counts ∙ append-assoc ballots° (r .previous) °counts
+
+  at-ballots : all ≡ signers° ++ °ballots
+  at-ballots = at-previous ∙ append-assoc signers° (words 8 (r .ballots)) °previous
+
+  at-signers : all ≡ kinds° ++ °signers
+  at-signers = at-ballots ∙ append-assoc kinds° (r .signers) °ballots
+
+  at-kinds : all ≡ ids° ++ °kinds
+  at-kinds = at-signers ∙ append-assoc ids° (r .kinds) °signers
+
+  at-ids : all ≡ numbers° ++ °ids
+  at-ids = at-kinds ∙ append-assoc numbers° (r .ids) °kinds
+
+  at-numbers : all ≡ graph° ++ °numbers
+  at-numbers = at-ids ∙ append-assoc graph° (numberBytes (r .house) (r .bay) (r .own) (r .held) (r .last)) °ids
+
+  -- how long what stands in front is
+  long-numbers : length numbers° ≡ 1462
+  long-numbers = long graph° (numberBytes (r .house) (r .bay) (r .own) (r .held) (r .last)) 1454 8 (graph-long r (h .sized)) (numbers-long r (h .sized))
+
+  long-ids : length ids° ≡ 5558
+  long-ids = long numbers° (r .ids) 1462 4096 long-numbers (h .sized .ids)
+
+  long-kinds : length kinds° ≡ 5686
+  long-kinds = long ids° (r .kinds) 5558 128 long-ids (h .sized .kinds)
+
+  long-signers : length signers° ≡ 5814
+  long-signers = long kinds° (r .signers) 5686 128 long-kinds (h .sized .signers)
+
+  long-ballots : length ballots° ≡ 6838
+  long-ballots = long signers° (words 8 (r .ballots)) 5814 1024 long-signers (words-length 8 (r .ballots) ∙ ap (λ (k : ℕ). 8 * k) (h .sized .ballots))
+
+  long-previous : length previous° ≡ 6966
+  long-previous = long ballots° (r .previous) 6838 128 long-ballots (h .sized .previous)
+
+  long-counts : length counts° ≡ 7094
+  long-counts = long previous° (r .counts) 6966 128 long-previous (h .sized .counts)
+
+  long-references : length references° ≡ 23478
+  long-references = long counts° (r .references) 7094 16384 long-counts (h .sized .references)
+
+  long-known : length known° ≡ 23606
+  long-known = long references° (r .known) 23478 128 long-references (h .sized .known)
+
+  -- ---- each field
+  read-part : (n at : ℕ) (p v q : List ℕ) → all ≡ p ++ (v ++ q) → length p ≡ at → length v ≡ n → part n all at ≡ v
+  read-part n at p v q e f k = ap (λ (x : List ℕ). part n x at) e ∙ between p v q at n f k
+
+  read-number : (at x : ℕ) (p q : List ℕ) → all ≡ p ++ (bytes 2 x ++ q) → length p ≡ at → x < 256 ^ 2 → be 2 all at ≡ x
+  read-number at x p q e f k = ap (λ (y : List ℕ). be 2 y at) e ∙ be-at 2 p (bytes 2 x ++ q) at f ∙ be-bytes 2 x q k
+
+  read-byte : (at x : ℕ) (p q : List ℕ) → all ≡ p ++ x ∷ q → length p ≡ at → getD all at 0 ≡ x
+  read-byte at x p q e f = ap (λ (y : List ℕ). getD y at 0) e ∙ getD-at p x q 0 at f
+
+  -- the numbers between the graph and the ids
+  at-bay : all ≡ graph° ++ bytes 2 (r .house) ++ (bytes 2 (r .bay) ++ (bytes 2 (r .own) ++ r .held ∷ r .last ∷ °ids))
+  unfolding bytes
+  at-bay = at-numbers ∙ sym (append-assoc graph° (bytes 2 (r .house)) (bytes 2 (r .bay) ++ (bytes 2 (r .own) ++ r .held ∷ r .last ∷ °ids)))
+
+  at-own : all ≡ graph° ++ bytes 2 (r .house) ++ bytes 2 (r .bay) ++ (bytes 2 (r .own) ++ r .held ∷ r .last ∷ °ids)
+  at-own = at-bay ∙ sym (append-assoc (graph° ++ bytes 2 (r .house)) (bytes 2 (r .bay)) (bytes 2 (r .own) ++ r .held ∷ r .last ∷ °ids))
+
+  at-held : all ≡ graph° ++ bytes 2 (r .house) ++ bytes 2 (r .bay) ++ bytes 2 (r .own) ++ r .held ∷ r .last ∷ °ids
+  at-held = at-own ∙ sym (append-assoc (graph° ++ bytes 2 (r .house) ++ bytes 2 (r .bay)) (bytes 2 (r .own)) (r .held ∷ r .last ∷ °ids))
+
+  at-last : all ≡ graph° ++ bytes 2 (r .house) ++ bytes 2 (r .bay) ++ bytes 2 (r .own) ++ (r .held ∷ []) ++ r .last ∷ °ids
+  at-last = at-held ∙ sym (append-assoc (graph° ++ bytes 2 (r .house) ++ bytes 2 (r .bay) ++ bytes 2 (r .own)) (r .held ∷ []) (r .last ∷ °ids))
+
+  at-house : all ≡ graph° ++ (bytes 2 (r .house) ++ (bytes 2 (r .bay) ++ (bytes 2 (r .own) ++ r .held ∷ r .last ∷ °ids)))
+  at-house = at-bay ∙ append-assoc graph° (bytes 2 (r .house)) (bytes 2 (r .bay) ++ (bytes 2 (r .own) ++ r .held ∷ r .last ∷ °ids))
+
+  long-bay : length (graph° ++ bytes 2 (r .house)) ≡ 1456
+  long-bay = long graph° (bytes 2 (r .house)) 1454 2 (graph-long r (h .sized)) (bytes-length 2 (r .house))
+
+  long-own : length (graph° ++ bytes 2 (r .house) ++ bytes 2 (r .bay)) ≡ 1458
+  long-own = long (graph° ++ bytes 2 (r .house)) (bytes 2 (r .bay)) 1456 2 long-bay (bytes-length 2 (r .bay))
+
+  long-held : length (graph° ++ bytes 2 (r .house) ++ bytes 2 (r .bay) ++ bytes 2 (r .own)) ≡ 1460
+  long-held = long (graph° ++ bytes 2 (r .house) ++ bytes 2 (r .bay)) (bytes 2 (r .own)) 1458 2 long-own (bytes-length 2 (r .own))
+
+  long-last : length (graph° ++ bytes 2 (r .house) ++ bytes 2 (r .bay) ++ bytes 2 (r .own) ++ (r .held ∷ [])) ≡ 1461
+  long-last = long (graph° ++ bytes 2 (r .house) ++ bytes 2 (r .bay) ++ bytes 2 (r .own)) (r .held ∷ []) 1460 1 long-held refl
+
+  -- the graph
+  abbrev front : List ℕ
+  front = r .graph .acceptors ∷ r .graph .learners ∷ []
+
+  at-masks : all ≡ front ++ r .graph .counts ++ (words 4 (r .graph .masks) ++ °numbers)
+  at-masks = at-numbers ∙ append-assoc (front ++ r .graph .counts) (words 4 (r .graph .masks)) °numbers
+
+  long-masks : length (front ++ r .graph .counts) ≡ 46
+  long-masks = long front (r .graph .counts) 2 44 refl (h .sized .listCounts)
+
+  graph-back : graphIn all ≡ r .graph
+  graph-back =
+      let a : getD all 0 0 ≡ r .graph .acceptors = ap (λ (x : List ℕ). getD x 0 0) at-masks in
+      let l : getD all 1 0 ≡ r .graph .learners = ap (λ (x : List ℕ). getD x 1 0) at-masks in
+      let c = read-part 44 2 front (r .graph .counts) (words 4 (r .graph .masks) ++ °numbers) (at-masks ∙ append-assoc front (r .graph .counts) (words 4 (r .graph .masks) ++ °numbers)) refl (h .sized .listCounts) in
+      let m : numbers 4 352 all 46 ≡ r .graph .masks =
+      ap (λ (x : List ℕ). numbers 4 352 x 46) at-masks ∙ numbers-words 4 (r .graph .masks) (front ++ r .graph .counts) °numbers 46 352 long-masks (h .sized .masks) (h .maskFits) in
+      λ i. record { acceptors = a i; learners = l i; counts = c i; masks = m i }
+
+  ballots-back : numbers 8 128 all 5814 ≡ r .ballots
+  ballots-back = ap (λ (x : List ℕ). numbers 8 128 x 5814) at-ballots ∙ numbers-words 8 (r .ballots) signers° °previous 5814 128 long-signers (h .sized .ballots) (h .ballotFits)
+
+  back : roundIn all ≡ r
+  back =
+      let house = read-number 1454 (r .house) graph° (bytes 2 (r .bay) ++ (bytes 2 (r .own) ++ r .held ∷ r .last ∷ °ids)) at-house (graph-long r (h .sized)) (h .houseFits) in
+      let bay = read-number 1456 (r .bay) (graph° ++ bytes 2 (r .house)) (bytes 2 (r .own) ++ r .held ∷ r .last ∷ °ids) at-bay long-bay (h .bayFits) in
+      let own = read-number 1458 (r .own) (graph° ++ bytes 2 (r .house) ++ bytes 2 (r .bay)) (r .held ∷ r .last ∷ °ids) at-own long-own (h .ownFits) in
+      let held = read-byte 1460 (r .held) (graph° ++ bytes 2 (r .house) ++ bytes 2 (r .bay) ++ bytes 2 (r .own)) (r .last ∷ °ids) at-held long-held in
+      let last = read-byte 1461 (r .last) (graph° ++ bytes 2 (r .house) ++ bytes 2 (r .bay) ++ bytes 2 (r .own) ++ (r .held ∷ [])) °ids at-last long-last in
+      let ids = read-part 4096 1462 numbers° (r .ids) °kinds at-ids long-numbers (h .sized .ids) in
+      let kinds = read-part 128 5558 ids° (r .kinds) °signers at-kinds long-ids (h .sized .kinds) in
+      let signers = read-part 128 5686 kinds° (r .signers) °ballots at-signers long-kinds (h .sized .signers) in
+      let previous = read-part 128 6838 ballots° (r .previous) °counts at-previous long-ballots (h .sized .previous) in
+      let counts = read-part 128 6966 previous° (r .counts) °references at-counts long-previous (h .sized .counts) in
+      let references = read-part 16384 7094 counts° (r .references) °known at-references long-counts (h .sized .references) in
+      let known = read-part 128 23478 references° (r .known) °recent at-known long-references (h .sized .known) in
+      let recent = read-part 128 23606 known° (r .recent) t at-recent long-known (h .sized .recent) in
+      λ i.
+      record {
+        graph = graph-back i;
+        house = house i;
+        bay = bay i;
+        own = own i;
+        held = held i;
+        last = last i;
+        ids = ids i;
+        kinds = kinds i;
+        signers = signers i;
+        ballots = ballots-back i;
+        previous = previous i;
+        counts = counts i;
+        references = references i;
+        known = known i;
+        recent = recent i;
+      }
+
+pub round-reads-back : RoundReadsBack
+round-reads-back r t h = back r t h

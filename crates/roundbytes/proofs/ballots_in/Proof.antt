@@ -1,0 +1,80 @@
+-- The invariant: the first i numbers are read.
+use mathlib.Core.Path.{_≡_, refl, ap, ap₂, sym, _∙_}
+use mathlib.Core.List.{List, [], _∷_, _++_}
+use Prim.Native.Nat.{ℕ, _-_, _≤_}
+use native.Mathlib.Numerals.{add-one}
+use lib.ListN.{length, take, set, length-set}
+use lib.Seq.{take-all, take-suc-set}
+use Rattle.roundbytes.specs.Layout.{numbers}
+use borrow.Author.Needs.{needs}
+use native.Mathlib.Omega.{arith}
+use Rattle.roundbytes.proofs.ballots_in.Statement.{statement}
+use Rattle.roundbytes.proofs.ballots_in.Tie as tie
+
+abbrev Inv-loop : tie.InvT-loop
+Inv-loop s out₀ i₀ out i = (i ≤ 128) × ((length out ≡ 128) × (take i out ≡ numbers 8 i s 5814))
+
+abbrev μ-loop : tie.MeasureT-loop
+μ-loop s out₀ i₀ out i = 128 - i
+
+loop-holds : tie.Need-loop-holds Inv-loop μ-loop
+unfolding numbers
+loop-holds c = (omega arith, (refl, refl))
+
+mul-read64 : tie.Need-mul-read64 Inv-loop μ-loop
+mul-read64 c = search needs
+
+add-read64 : tie.Need-add-read64 Inv-loop μ-loop
+add-read64 c = search needs
+
+read64-requires : tie.Need-read64-requires Inv-loop μ-loop
+read64-requires c κs = search needs
+
+mul-out : tie.Need-mul-out Inv-loop μ-loop
+mul-out c = search needs
+
+array-write-out : tie.Need-array-write-out Inv-loop μ-loop
+array-write-out c = search needs
+
+add-i : tie.Need-add-i Inv-loop μ-loop
+add-i c = search needs
+
+loop-less : tie.Need-loop-less Inv-loop μ-loop
+loop-less c = search needs
+
+loop-again : tie.Need-loop-again Inv-loop μ-loop
+unfolding numbers
+loop-again c = let a = c .before .before .before .before .args in
+    let l = c .before .before .loop in
+    let x = c .read64 .result in (
+      omega arith,
+      (
+        length-set (l .out) (l .i) x ∙ l .inv .1 .0,
+        ap (λ (n : ℕ). take n (set (l .out) (l .i) x)) (add-one (l .i)) ∙ take-suc-set (l .out) (l .i) x (omega arith)
+            ∙ ap₂ (λ (p : List ℕ) (y : ℕ). p ++ (y ∷ [])) (l .inv .1 .1) (c .read64 .ensures)
+            ∙ sym (ap (λ (n : ℕ). numbers 8 n (a .s .now) 5814) (add-one (l .i))),
+      ),
+    )
+
+returns : tie.Need-returns Inv-loop μ-loop
+returns c = let a = c .before .before .before .args in
+    let l = c .before .loop in
+    let e : l .i ≡ 128 = omega arith in
+    sym (take-all 128 (l .out) (omega arith)) ∙ ap (λ (n : ℕ). take n (l .out)) (sym e) ∙ l .inv .1 .1 ∙ ap (λ (n : ℕ). numbers 8 n (a .s .now) 5814) e
+
+pub ballots-in-spec : {M : Type 1} → statement M
+ballots-in-spec =
+    tie.close
+    (tie.spec
+    Inv-loop
+    μ-loop
+    loop-holds
+    mul-read64
+    add-read64
+    read64-requires
+    mul-out
+    array-write-out
+    add-i
+    loop-less
+    loop-again
+    returns)

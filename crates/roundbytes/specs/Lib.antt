@@ -1,0 +1,2 @@
+-- The layout of a round as bytes
+pub mod Layout
