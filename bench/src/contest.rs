@@ -7,8 +7,15 @@ const REPETITIONS: usize = 101;
 /// Each timing runs the call often enough to take about this long.
 const SAMPLE: Duration = Duration::from_millis(2);
 
+/// Where that would take longer than this, fewer turns are taken, but not fewer than three.
+const PATIENCE: Duration = Duration::from_secs(12);
+const LEAST_TURNS: usize = 3;
+
+/// One contestant's call.
+pub type Call<'a> = Box<dyn FnMut() + 'a>;
+
 /// One contestant: its name and the call.
-pub type Entry<'a> = (&'a str, Box<dyn FnMut() + 'a>);
+pub type Entry<'a> = (&'a str, Call<'a>);
 
 /// The C library's `struct timespec` on 64-bit Linux.
 #[repr(C)]
@@ -74,4 +81,29 @@ pub fn run(name: &str, mut library: impl FnMut(), twins: Vec<Entry>) {
             .collect();
         println!("{name}: library / {twin} = {:.2}", median(ratios));
     }
+}
+
+/// The times of several calls in each of several turns.
+pub struct Turns {
+    times: Vec<Vec<f64>>,
+}
+
+impl Turns {
+    /// The median of one call's time divided by another's, turn by turn.
+    pub fn ratio(&self, one: usize, other: usize) -> f64 {
+        median(self.times.iter().map(|turn| turn[one] / turn[other]).collect())
+    }
+}
+
+/// Times all the calls, one after the other, in turns.
+pub fn take_turns(mut calls: Vec<Call>) -> Turns {
+    let counts: Vec<u32> = calls.iter_mut().map(|call| calls_for(call)).collect();
+    let start = now();
+    let mut times = Vec::new();
+    while times.len() < LEAST_TURNS || times.len() < REPETITIONS && now() - start < PATIENCE {
+        let turn =
+            calls.iter_mut().zip(&counts).map(|(call, count)| each(time(call, *count), *count));
+        times.push(turn.collect());
+    }
+    Turns { times }
 }

@@ -11,7 +11,7 @@ const FIELDS_LEN: usize = 48;
 const PROPOSAL_LEN: usize = 17;
 
 /// The count of references and where they start, or the row of the fault.
-fn check(bytes: &[u8]) -> Result<(usize, usize), u32> {
+pub fn check(bytes: &[u8]) -> Result<(usize, usize), u32> {
     let after = bytes.get(2..).ok_or(1u32)?;
     if usize::from(u16::from_be_bytes([bytes[0], bytes[1]])) != after.len() {
         return Err(1);

@@ -47,74 +47,87 @@ fn disturb_ids(random: &mut Random, bytes: &mut [u8]) {
     }
 }
 
-/// One fault in message bytes: flips, cuts, extensions, ids out of order, wrong
-/// counts, lengths, markers, versions and kinds.
-pub fn message(random: &mut Random, bytes: &mut Vec<u8>) {
-    match random.below(12) {
-        0 => {
-            for _ in 0..random.between(1, 3) {
-                if !bytes.is_empty() {
-                    let place = random.below(bytes.len());
-                    bytes[place] ^= 1 << random.below(8);
-                }
-            }
+fn flip_bits(random: &mut Random, bytes: &mut [u8]) {
+    for _ in 0..random.between(1, 3) {
+        if !bytes.is_empty() {
+            let place = random.below(bytes.len());
+            bytes[place] ^= 1 << random.below(8);
         }
-        1 => bytes.truncate(random.between(0, bytes.len())),
-        2 => {
+    }
+}
+
+/// Bytes cut off, or put behind, with the outer length left wrong or put right.
+fn disturb_length(random: &mut Random, bytes: &mut Vec<u8>) {
+    match random.below(3) {
+        0 => bytes.truncate(random.between(0, bytes.len())),
+        1 => {
             // Before a field of the head, or inside it.
             bytes.truncate(random.between(0, 50));
             fix_outer_length(bytes);
         }
-        3 => {
+        _ => {
             let more = random.between(1, 70);
             bytes.extend(random.bytes(more));
             if random.once_in(2) {
                 fix_outer_length(bytes);
             }
         }
-        4 | 5 => disturb_ids(random, bytes),
-        6 => {
-            let place = count_place(bytes);
-            let count = *random.pick(&[0, 1, 2, 127, 128, 129, 130, 255]);
-            set(bytes, place, count);
-        }
-        7 => {
-            let place = random.below(2);
-            let byte = if random.once_in(2) { random.byte() } else { random.below(3) as u8 };
-            set(bytes, place, byte);
-        }
-        8 => {
-            let marker = if random.once_in(4) { random.byte() } else { random.below(3) as u8 };
-            set(bytes, MARKER, marker);
-        }
-        9 => {
-            let place = random.between(2, 3);
-            let byte = if random.once_in(3) { random.byte() } else { random.below(4) as u8 };
-            set(bytes, place, byte);
-        }
-        10 => {
-            let len = random.between(0, 80);
-            *bytes = random.bytes(len);
-            fix_outer_length(bytes);
-            if random.once_in(2) {
-                set(bytes, 2, VERSION);
-                set(bytes, 3, random.between(1, 2) as u8);
-            }
-        }
+    }
+}
+
+/// An outer length, version, kind, marker or count outside its range, or about its end.
+fn disturb_head(random: &mut Random, bytes: &mut [u8]) {
+    let any = random.byte();
+    let small = random.below(4) as u8;
+    let place = match random.below(4) {
+        0 => random.below(2),
+        1 => random.between(2, 3),
+        2 => MARKER,
         _ => {
-            if random.once_in(100) {
-                // The outer length cannot tell 65,536 bytes more from none.
-                let more = *random.pick(&[65_536, 65_535, 131_072]);
-                bytes.resize(bytes.len() + more, 0);
-            } else if random.once_in(100) {
-                bytes.resize(65_537, 1);
-                fix_outer_length(bytes);
-            } else {
-                let place = count_place(bytes);
-                let count = bytes.get(place).map_or(0, |count| count.wrapping_add(1));
-                set(bytes, place, count);
-            }
+            let count = *random.pick(&[0, 1, 2, 127, 128, 129, 130, 255]);
+            return set(bytes, count_place(bytes), count);
         }
+    };
+    set(bytes, place, if random.once_in(3) { any } else { small });
+}
+
+/// Random bytes, with some of a head.
+fn noise(random: &mut Random) -> Vec<u8> {
+    let len = random.between(0, 80);
+    let mut bytes = random.bytes(len);
+    fix_outer_length(&mut bytes);
+    if random.once_in(2) {
+        set(&mut bytes, 2, VERSION);
+        set(&mut bytes, 3, random.between(1, 2) as u8);
+    }
+    bytes
+}
+
+/// One reference more than there is room for, or far too many bytes.
+fn overfill(random: &mut Random, bytes: &mut Vec<u8>) {
+    if random.once_in(100) {
+        // The outer length cannot tell 65,536 bytes more from none.
+        let more = *random.pick(&[65_536, 65_535, 131_072]);
+        bytes.resize(bytes.len() + more, 0);
+    } else if random.once_in(100) {
+        bytes.resize(65_537, 1);
+        fix_outer_length(bytes);
+    } else {
+        let place = count_place(bytes);
+        let count = bytes.get(place).map_or(0, |count| count.wrapping_add(1));
+        set(bytes, place, count);
+    }
+}
+
+/// One fault in message bytes.
+pub fn message(random: &mut Random, bytes: &mut Vec<u8>) {
+    match random.below(12) {
+        0 => flip_bits(random, bytes),
+        1..=3 => disturb_length(random, bytes),
+        4 | 5 => disturb_ids(random, bytes),
+        6..=9 => disturb_head(random, bytes),
+        10 => *bytes = noise(random),
+        _ => overfill(random, bytes),
     }
 }
 

@@ -5,6 +5,8 @@
 pub mod damage;
 pub mod fields;
 pub mod graph;
+pub mod handed_in;
+pub mod layout;
 pub mod library;
 pub mod meaning;
 pub mod message;
@@ -13,3 +15,4 @@ pub mod refusal;
 pub mod round;
 pub mod sha256;
 pub mod sites;
+pub mod tampering;

@@ -1,6 +1,8 @@
 //! The C interface under judgement. A slice is lent as a pointer and a length;
 //! each wrapper lends exactly the bytes of its slices.
 
+use std::ptr::{null, null_mut};
+
 #[cfg(feature = "digest")]
 pub use digest::sha256;
 #[cfg(feature = "graphs")]
@@ -10,8 +12,25 @@ pub use messages::{read_message, reference, write_proposal};
 #[cfg(feature = "rounds")]
 pub use rounds::{deliver, open, report};
 
+/// "a null pointer is allowed where the length is 0": here it is always one.
+pub fn start(bytes: &[u8]) -> *const u8 {
+    if bytes.is_empty() {
+        return null();
+    }
+    bytes.as_ptr()
+}
+
+pub fn start_mut(bytes: &mut [u8]) -> *mut u8 {
+    if bytes.is_empty() {
+        return null_mut();
+    }
+    bytes.as_mut_ptr()
+}
+
 #[cfg(feature = "digest")]
 mod digest {
+    use super::{start, start_mut};
+
     extern "C" {
         fn hpaxos_sha256(
             message: *const u8,
@@ -22,12 +41,14 @@ mod digest {
     }
 
     pub fn sha256(message: &[u8], digest: &mut [u8]) -> u32 {
-        unsafe { hpaxos_sha256(message.as_ptr(), message.len(), digest.as_mut_ptr(), digest.len()) }
+        unsafe { hpaxos_sha256(start(message), message.len(), start_mut(digest), digest.len()) }
     }
 }
 
 #[cfg(feature = "messages")]
 mod messages {
+    use super::{start, start_mut};
+
     extern "C" {
         fn hpaxos_read_message(
             bytes: *const u8,
@@ -54,13 +75,11 @@ mod messages {
     }
 
     pub fn read_message(bytes: &[u8], fields: &mut [u8]) -> u32 {
-        unsafe {
-            hpaxos_read_message(bytes.as_ptr(), bytes.len(), fields.as_mut_ptr(), fields.len())
-        }
+        unsafe { hpaxos_read_message(start(bytes), bytes.len(), start_mut(fields), fields.len()) }
     }
 
     pub fn reference(bytes: &[u8], n: usize, id: &mut [u8]) -> u32 {
-        unsafe { hpaxos_reference(bytes.as_ptr(), bytes.len(), n, id.as_mut_ptr(), id.len()) }
+        unsafe { hpaxos_reference(start(bytes), bytes.len(), n, start_mut(id), id.len()) }
     }
 
     pub fn write_proposal(
@@ -71,24 +90,29 @@ mod messages {
         value: u32,
         message: &mut [u8],
     ) -> u32 {
-        let (start, len) = (message.as_mut_ptr(), message.len());
-        unsafe { hpaxos_write_proposal(house, bay, proposer, round, value, start, len) }
+        let (to, len) = (start_mut(message), message.len());
+        unsafe { hpaxos_write_proposal(house, bay, proposer, round, value, to, len) }
     }
 }
 
 #[cfg(feature = "graphs")]
 mod graphs {
+    use super::start;
+
     extern "C" {
         fn hpaxos_check_graph(file: *const u8, len: usize) -> u32;
     }
 
     pub fn check_graph(file: &[u8]) -> u32 {
-        unsafe { hpaxos_check_graph(file.as_ptr(), file.len()) }
+        unsafe { hpaxos_check_graph(start(file), file.len()) }
     }
 }
 
 #[cfg(feature = "rounds")]
 mod rounds {
+    use super::{start, start_mut};
+    use crate::layout::LISTENING;
+
     extern "C" {
         fn hpaxos_open(
             graph: *const u8,
@@ -116,29 +140,28 @@ mod rounds {
         ) -> u32;
     }
 
-    const LISTENING: u32 = 256;
-
-    pub fn open(graph: &[u8], house: u16, bay: u16, own: Option<u8>, round: &mut [u8]) -> u32 {
-        let acceptor = own.map_or(LISTENING, u32::from);
-        let (start, len) = (round.as_mut_ptr(), round.len());
-        unsafe { hpaxos_open(graph.as_ptr(), graph.len(), house, bay, acceptor, start, len) }
+    /// An acceptor number, or none: a listening round.
+    pub fn open(graph: &[u8], house: u16, bay: u16, own: Option<u32>, round: &mut [u8]) -> u32 {
+        let acceptor = own.unwrap_or(LISTENING as u32);
+        let (to, len) = (start_mut(round), round.len());
+        unsafe { hpaxos_open(start(graph), graph.len(), house, bay, acceptor, to, len) }
     }
 
     pub fn deliver(round: &mut [u8], message: &[u8], reply: &mut [u8]) -> u32 {
         unsafe {
             hpaxos_deliver(
-                round.as_mut_ptr(),
+                start_mut(round),
                 round.len(),
-                message.as_ptr(),
+                start(message),
                 message.len(),
-                reply.as_mut_ptr(),
+                start_mut(reply),
                 reply.len(),
             )
         }
     }
 
     pub fn report(round: &[u8], learner: u8, out: &mut [u8]) -> u32 {
-        let (start, len) = (out.as_mut_ptr(), out.len());
-        unsafe { hpaxos_report(round.as_ptr(), round.len(), learner, start, len) }
+        let (to, len) = (start_mut(out), out.len());
+        unsafe { hpaxos_report(start(round), round.len(), learner, to, len) }
     }
 }

@@ -28,7 +28,7 @@ pub enum Content {
 }
 
 /// Messages with what each of them means.
-#[derive(Clone)]
+#[derive(Clone, Debug, PartialEq, Eq)]
 pub struct History {
     pub graph: LearnerGraph,
     messages: Vec<Held>,

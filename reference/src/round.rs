@@ -1,16 +1,16 @@
 //! Document 01, "A delivery" and "The report for a learner": one decision for
 //! one house and bay.
 
-use crate::graph::{self, LearnerGraph, MOST_ACCEPTORS, MOST_LEARNERS, MOST_MASKS};
+use crate::graph;
 use crate::meaning::{Content, Held, History, Place};
-use crate::message::{self, Body, Message, LONGEST, MOST_REFERENCES};
+use crate::message::{self, Body, Message, LONGEST};
 use crate::refusal::Refusal;
 use crate::sha256::{sha256, Id};
 
 /// "It holds up to 128 messages."
 pub const CAPACITY: usize = 128;
 
-#[derive(Clone)]
+#[derive(Clone, Debug, PartialEq, Eq)]
 pub struct Round {
     pub house: u16,
     pub bay: u16,
@@ -22,6 +22,35 @@ pub struct Round {
     /// For each place: whether it is in recent.
     pub recent: Vec<bool>,
     pub last_sent: Option<Place>,
+}
+
+/// What became of an accepted message.
+#[derive(Clone, Debug, PartialEq, Eq)]
+pub struct Delivery {
+    /// Where it is held.
+    pub place: Place,
+    /// Whether it awaited its return there.
+    pub returned: bool,
+    pub step: Step,
+}
+
+#[derive(Clone, Debug, PartialEq, Eq)]
+pub enum Step {
+    /// It is known, and that is all.
+    Kept,
+    /// It joined recent.
+    Joined,
+    /// A reply was written, which is held behind all others.
+    Replied(Vec<u8>),
+}
+
+impl Delivery {
+    pub fn reply(self) -> Option<Vec<u8>> {
+        match self.step {
+            Step::Replied(reply) => Some(reply),
+            _ => None,
+        }
+    }
 }
 
 #[derive(Clone, Copy, Debug, PartialEq, Eq)]
@@ -50,84 +79,20 @@ impl Report {
 
 /// "A round opens from a graph file (checked first; 17 comes after 7), a house,
 /// a bay, and an acceptor number or none (listening only)."
-pub fn open(file: &[u8], house: u16, bay: u16, own: Option<u8>) -> Result<Round, Refusal> {
+pub fn open(file: &[u8], house: u16, bay: u16, own: Option<u32>) -> Result<Round, Refusal> {
     let graph = graph::read(file)?;
-    if own.is_some_and(|number| usize::from(number) >= graph.acceptors) {
+    if own.is_some_and(|number| number as usize >= graph.acceptors) {
         return Err(Refusal::Argument);
     }
     Ok(Round {
         house,
         bay,
-        own,
+        own: own.map(|number| number as u8),
         history: History::new(graph),
         known: Vec::new(),
         recent: Vec::new(),
         last_sent: None,
     })
-}
-
-/// A round as it is handed in: bytes that no opening need have led to. The
-/// previous message of a held one is a place here.
-#[derive(Clone)]
-pub struct HandedIn {
-    pub graph: LearnerGraph,
-    pub house: u16,
-    pub bay: u16,
-    pub own: Option<u8>,
-    pub records: Vec<Record>,
-    pub last_sent: Option<Place>,
-}
-
-#[derive(Clone)]
-pub struct Record {
-    pub id: Id,
-    pub signer: u8,
-    pub known: bool,
-    pub recent: bool,
-    pub body: RecordBody,
-}
-
-#[derive(Clone)]
-pub enum RecordBody {
-    Proposal { ballot: u64 },
-    Acceptor { previous: Option<Place>, references: Vec<Place> },
-}
-
-/// Row 17: "a round handed in with a count or place outside its table, a
-/// reference not to an earlier place, or an acceptor message with none". All else
-/// is taken as it is.
-pub fn take(handed_in: HandedIn) -> Result<Round, Refusal> {
-    let HandedIn { graph, house, bay, own, records, last_sent } = handed_in;
-    let within = (1..=MOST_ACCEPTORS).contains(&graph.acceptors)
-        && (1..=MOST_LEARNERS).contains(&graph.learners())
-        && graph.quorums.iter().chain(&graph.edges).all(|list| list.len() <= MOST_MASKS)
-        && own.is_none_or(|number| usize::from(number) < graph.acceptors)
-        && records.len() <= CAPACITY
-        && last_sent.is_none_or(|place| place < records.len());
-    if !within {
-        return Err(Refusal::Argument);
-    }
-    let ids: Vec<Id> = records.iter().map(|record| record.id).collect();
-    let mut history = History::new(graph);
-    let (mut known, mut recent) = (Vec::new(), Vec::new());
-    for (place, record) in records.into_iter().enumerate() {
-        let content = match record.body {
-            RecordBody::Proposal { ballot } => Content::Proposal { ballot },
-            RecordBody::Acceptor { previous, references } => {
-                let counted = (1..=MOST_REFERENCES).contains(&references.len());
-                let earlier = references.iter().all(|reference| *reference < place);
-                let held = previous.is_none_or(|previous| previous < ids.len());
-                if !(counted && earlier && held) {
-                    return Err(Refusal::Argument);
-                }
-                Content::Acceptor { previous: previous.map(|previous| ids[previous]), references }
-            }
-        };
-        known.push(record.known);
-        recent.push(record.recent);
-        history.push(Held { id: record.id, signer: record.signer, content });
-    }
-    Ok(Round { house, bay, own, history, known, recent, last_sent })
 }
 
 impl Round {
@@ -145,7 +110,7 @@ impl Round {
     }
 
     /// Delivers message bytes, with room for `room` bytes of reply.
-    pub fn deliver(&mut self, bytes: &[u8], room: usize) -> Result<Option<Vec<u8>>, Refusal> {
+    pub fn deliver(&mut self, bytes: &[u8], room: usize) -> Result<Delivery, Refusal> {
         if room < LONGEST {
             return Err(Refusal::Argument);
         }
@@ -157,16 +122,14 @@ impl Round {
             self.history.pop();
         }
         accepted?;
-        let place = match awaiting {
-            Some(place) => place,
-            None => {
-                self.known.push(false);
-                self.recent.push(false);
-                m
-            }
-        };
+        if awaiting.is_none() {
+            self.known.push(false);
+            self.recent.push(false);
+        }
+        let place = awaiting.unwrap_or(m);
         self.known[place] = true;
-        Ok(self.own.and_then(|own| self.answer(own, place)))
+        let step = self.own.map_or(Step::Kept, |own| self.answer(own, place));
+        Ok(Delivery { place, returned: awaiting.is_some(), step })
     }
 
     /// Rows 8 to 12: the message with places for its ids, and its own place if it
@@ -240,7 +203,7 @@ impl Round {
 
     /// "An acceptor then forms z with its last sent message as previous and the
     /// references recent ∪ {m}." Figure 1, lines 14 to 20.
-    fn answer(&mut self, own: u8, m: Place) -> Option<Vec<u8>> {
+    fn answer(&mut self, own: u8, m: Place) -> Step {
         let id_at = |place: Place| self.history.messages()[place].id;
         let previous = self.last_sent.map(id_at);
         let chosen = (0..self.held()).filter(|place| *place == m || self.recent[*place]);
@@ -266,13 +229,14 @@ impl Round {
             self.last_sent = Some(z);
             self.recent.fill(false);
             self.recent.push(true);
-            return Some(reply);
+            return Step::Replied(reply);
         }
         self.history.pop();
-        if !self.history.is_proposal(m) {
-            self.recent[m] = true;
+        if self.history.is_proposal(m) {
+            return Step::Kept;
         }
-        None
+        self.recent[m] = true;
+        Step::Joined
     }
 
     /// "A ballot decides for a if the signers of known 2as with that ballot and

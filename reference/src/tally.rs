@@ -1,6 +1,6 @@
 //! What a group of comparisons found, and how it is told.
 
-// Used up as the layers are switched on.
+// A layer without its feature leaves some of this unused.
 #![cfg_attr(not(feature = "rounds"), allow(dead_code))]
 
 use std::fmt::Write;
@@ -27,6 +27,14 @@ impl Tally {
         }
     }
 
+    /// Counts one verdict, which is nothing or what differed in the call.
+    pub fn judge(&mut self, verdict: Result<(), String>, call: impl FnOnce() -> String) {
+        let difference = verdict.err();
+        self.check(difference.is_none(), || {
+            format!("{}: {}", difference.unwrap_or_default(), call())
+        });
+    }
+
     /// Prints the group's line.
     pub fn line(&self, group: &str, what: &str) {
         println!("{group}: {what}: {} agreed, {} differed", self.passed, self.failed);
@@ -39,15 +47,12 @@ impl Tally {
 }
 
 /// How often each number was answered.
+#[derive(Default)]
 pub struct Reached {
     counts: [u64; 18],
 }
 
 impl Reached {
-    pub fn new() -> Self {
-        Reached { counts: [0; 18] }
-    }
-
     pub fn count(&mut self, number: u32) {
         if let Some(count) = self.counts.get_mut(number as usize) {
             *count += 1;
@@ -86,26 +91,25 @@ impl Lent {
         Lent { bytes: before.clone(), before, len }
     }
 
+    /// A buffer whose first bytes are given.
+    pub fn holding(random: &mut reference::random::Random, front: &[u8], len: usize) -> Self {
+        let mut lent = Lent::new(random, len);
+        lent.window()[..front.len()].copy_from_slice(front);
+        lent.before.copy_from_slice(&lent.bytes);
+        lent
+    }
+
     pub fn window(&mut self) -> &mut [u8] {
         &mut self.bytes[MARGIN..MARGIN + self.len]
     }
 
-    /// The bytes as they were lent, and as they are.
-    pub fn before(&self) -> &[u8] {
-        &self.before[MARGIN..MARGIN + self.len]
-    }
-
+    /// The bytes as they are now.
     pub fn after(&self) -> &[u8] {
         &self.bytes[MARGIN..MARGIN + self.len]
     }
 
-    /// Takes the bytes as they are for those of the next call.
-    pub fn settle(&mut self) {
-        self.before.copy_from_slice(&self.bytes);
-    }
-
     /// Whether all bytes outside the first `len` of the buffer are as they were.
-    pub fn ends_kept(&self, len: usize) -> bool {
+    fn ends_kept(&self, len: usize) -> bool {
         let end = MARGIN + len;
         self.bytes[..MARGIN] == self.before[..MARGIN] && self.bytes[end..] == self.before[end..]
     }

@@ -4,7 +4,7 @@ use mathlib.Core.List.{List, [], _∷_, _++_, append-assoc, append-nil}
 use Prim.Native.Nat.{ℕ, zero, suc, _+_, _*_, _/_, _%_, _^_, _≤_, _<_}
 use native.Mathlib.Nat.{add-zero, zero-add, add-assoc, pow-suc}
 use native.Mathlib.Omega.{arith}
-use lib.ListN.{length, getD, take, drop, length-append, length-drop, take-append-drop}
+use lib.ListN.{length, getD, take, drop, length-append, length-drop, take-append-drop, drop-of-length-le}
 use lib.Seq.{take-append-seam, drop-append-add, drop-drop, drop-cons, length-take-le, take-at, take-add, take-suc, getD-append-add, getD-at, getD-drop}
 use Rattle.base.specs.Bytes.{be, bytes, part, putAt, Octets}
 
@@ -38,6 +38,14 @@ putAt-putAt b at v w h =
     ap₂ (λ (x y : List ℕ). x ++ w ++ y) (take-at p d (at + length v) l)
     (ap (λ (k : ℕ). drop (k + length w) (p ++ d)) (sym l) ∙ drop-append-add p d (length w) ∙ drop-drop (length w) (at + length v) b ∙ ap (λ (k : ℕ). drop k b) e)
     ∙ ap (λ (x : List ℕ). x ++ drop (at + length (v ++ w)) b) (append-assoc (take at b) v w)
+
+-- bytes put in, and more behind them, where the second place is known by an equation only
+pub putAt-more : (b l m p v : List ℕ) (at k : ℕ) → at ≤ length b → at + length p ≡ k → l ≡ putAt b at p → m ≡ putAt l k v → m ≡ putAt b at (p ++ v)
+putAt-more b l m p v at k h q e f = f ∙ ap₂ (λ (x : List ℕ) (n : ℕ). putAt x n v) e (sym q) ∙ putAt-putAt b at p v h
+
+-- as many bytes as there are, put in from the front
+pub putAt-whole : (b v : List ℕ) → length b ≡ length v → putAt b 0 v ≡ v
+putAt-whole b v h = ap (λ (x : List ℕ). v ++ x) (drop-of-length-le b {i = 0 + length v} (omega arith)) ∙ append-nil v
 
 -- nothing put in
 pub putAt-none : (b : List ℕ) (at : ℕ) → b ≡ putAt b at []

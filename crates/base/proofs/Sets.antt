@@ -1,17 +1,17 @@
 -- Laws of sets as masks: what containing and having none in common say. Set operations on masks meet `has` bit by bit.
 use mathlib.Core.Path.{_≡_, sym, ap, _∙_, subst}
 use mathlib.Core.Bool.{Bool, not, _&&_, _||_}
-use Prim.Native.Nat.{ℕ, _-_, _/_, _%_, _^_, _<_, min, max}
+use Prim.Native.Nat.{ℕ, _-_, _/_, _%_, _^_, _<_, min}
 use native.Mathlib.Nat.{mod-lt, div-eq-of-lt, lt-of-le-of-lt}
 use native.Mathlib.Decide.{decLt}
 use native.Mathlib.Omega.{arith}
 use lib.Bits.{bitAnd, bitOr, and-comm, or-lt, and-le-l}
 use lib.Pow.{pow-pos, pow-mono, ones-lt}
 use lib.Dec.{T, eqb, eqb→eq, T-not, not-T}
-use Rattle.base.specs.Tests.{all, below}
+use Rattle.base.specs.Tests.{below}
 use Rattle.base.specs.Sets.{has, contains, apart}
 use Rattle.base.proofs.Tests.{same-test, eq→eqb, neqb→ne, and-l, and-r, and-in, or-l, or-r, or-out, imp-in, imp-out, all-in, all-out, all-cong, below-in, below-out}
-use Rattle.base.proofs.Bits.{bit, and-bit, or-bit, bit-of-or, or-of-bit, not-bit, high-bit, bit-of-pow, pow-of-bit, every-of-and, and-of-every}
+use Rattle.base.proofs.Bits.{bit, and-bit, bit-of-or, or-of-bit, not-bit, high-bit, bit-of-pow, pow-of-bit, every-of-and, and-of-every}
 use mathlib.Core.Logic.{_⊎_, inl, inr, _↔_}
 
 -- ---- membership in a union, an intersection

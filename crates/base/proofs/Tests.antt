@@ -256,3 +256,11 @@ any-not-all f g (x ∷ l) h = ap₂ _||_ (h x) (any-not-all f g l h) ∙ step (g
     step : (a b : Bool) → (not a || not b) ≡ not (a && b)
     step true b = refl
     step false b = refl
+
+-- ---- each number below n passes, as a loop that counts up makes it
+pub all-below-more : (f : ℕ → Bool) (n : ℕ) → all f (below n) ≡ true → f n ≡ true → all f (below (n + 1)) ≡ true
+unfolding all below
+all-below-more f n e g = ap (λ (k : ℕ). all f (below k)) (add-one n) ∙ λ i. g i && e i
+
+pub all-below-fails : (f : ℕ → Bool) (n i : ℕ) → i < n → f i ≡ false → all f (below n) ≡ false
+all-below-fails f n i h e = not-true (all f (below n)) (not-T (all f (below n)) (λ t. subst T e (all-out f (below-in n h) t)))

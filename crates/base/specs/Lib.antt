@@ -4,5 +4,7 @@ pub mod Tests
 pub mod Sets
 -- Big-endian numbers in lists of bytes, and a list with bytes put in
 pub mod Bytes
+-- Ballots: a round number and a value
+pub mod Ballots
 -- The refusals and their numbers
 pub mod Refusals

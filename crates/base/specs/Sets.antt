@@ -2,7 +2,7 @@
 use mathlib.Core.Bool.{Bool, not, _&&_, _||_}
 use Prim.Native.Nat.{ℕ, _/_, _%_, _^_}
 use lib.Dec.{eqb}
-use Rattle.base.specs.Tests.{any, all, below}
+use Rattle.base.specs.Tests.{all, below}
 
 -- p is in the mask q: bit p of q is 1
 unfoldable pub has : ℕ → ℕ → Bool

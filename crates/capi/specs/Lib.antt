@@ -4,3 +4,5 @@ pub mod Digest
 pub mod Message
 -- What the C call for graph files answers
 pub mod Graph
+-- What the C calls for a round kept in a lent buffer answer and write
+pub mod Round

@@ -2,7 +2,7 @@
 use mathlib.Core.List.{List, [], _∷_, _++_}
 use Prim.Native.Nat.{ℕ, _+_}
 use lib.Dec.{ltb}
-use lib.ListN.{length, drop, replicate}
+use lib.ListN.{length, replicate}
 use Rattle.base.specs.Tests.{pick}
 use Rattle.base.specs.Bytes.{bytes, part}
 use Rattle.base.specs.Refusals.{numberOf}

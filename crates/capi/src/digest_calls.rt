@@ -1,6 +1,5 @@
 // The digest for callers in C.
 ghost use mathlib.Core.Path.{_≡_};
-ghost use Prim.Native.Nat.{ℕ};
 ghost use Rattle.capi.specs.Digest.{digestAnswer, digestBuffer};
 use base::put_all;
 use digest::sha256;

@@ -2,3 +2,4 @@
 mod digest_calls;
 mod graph_calls;
 mod message_calls;
+mod round_calls;

@@ -14,7 +14,7 @@ use message::layout::PREVIOUS_AT;
 use message::layout::PROPOSAL;
 use message::layout::marker_of;
 ghost use mathlib.Core.Path.{_≡_};
-ghost use Prim.Native.Nat.{ℕ, _+_, _≤_};
+ghost use Prim.Native.Nat.{_+_, _≤_};
 ghost use lib.ListN.{length};
 ghost use Rattle.message.specs.Outcomes.{IsAcceptor};
 ghost use Rattle.message.specs.Writer.{fronted, proposalBytes, proposalOf, referenceAnswer, referenceTo, writtenTo, wrote};

@@ -2,36 +2,32 @@
 use mathlib.Core.Path.{_≡_, refl, sym, ap, ap₂, subst, _∙_}
 use mathlib.Core.Logic.{_⊎_, inl, inr}
 use mathlib.Core.Bool.{Bool, true, false, not, _&&_, _||_}
-use mathlib.Core.Option.{Option, none, some}
-use mathlib.Core.List.{List, [], _∷_, _++_, List·Memᴰ·head, List·Memᴰ·tail}
-use Prim.Native.Nat.{ℕ, zero, suc, _+_, _-_, _*_, _≤_, _<_}
+use mathlib.Core.Option.{none}
+use mathlib.Core.List.{List, [], _∷_, _++_}
+use Prim.Native.Nat.{ℕ, _+_, _-_, _<_}
 use native.Mathlib.Decide.{decLt, ℕ-discrete}
 use native.Mathlib.Omega.{arith}
-use borrow.Author.Tests.{ne-eqb, eq-eqb}
-use lib.Dec.{T, eqb, ltb, eqb→eq, ltb→lt, eqb-refl}
-use lib.ListN.{length, getD, set, length-set, length-append}
+use lib.Dec.{T, eqb, ltb, eqb→eq, ltb→lt}
+use lib.ListN.{length, getD, set, length-append}
 use lib.Seq.{getD-set-same, getD-set-other}
-use Rattle.base.specs.Tests.{_∈_, pick, any, below}
-use Rattle.base.specs.Sets.{has}
-use Rattle.base.proofs.Tests.{same-test, eq→eqb, or-l, or-r, or-out, and-l, and-cong, neqb→ne, dec-T}
+use Rattle.base.specs.Tests.{_∈_, any}
+use Rattle.base.proofs.Tests.{same-test, eq→eqb, or-l, or-r, or-out, and-cong}
 use Rattle.graph.specs.LearnerGraph.{LearnerGraph}
 use Rattle.protocol.specs.Ids.{Id, sameId, samePrevious}
 use Rattle.protocol.specs.Message.{Message, isProposal, tran, is1b, is2a, ballot, forks}
 use Rattle.protocol.specs.Learners.{fresh, lrns}
 use Rattle.protocol.specs.WellFormed.{formed1b, formed2a}
-use Rattle.protocol.specs.Table.{Held, offers, says, Table, at, tabulate, heldId, heldSigner, heldPrevious, offered, places, Ordered, nodeBy, tree, reach}
-use Rattle.protocol.specs.Places.{is1bAt, is2aAt, ballotAt, freshAt, lrnsAt}
-use Rattle.protocol.proofs.Ids.{sameId-law, samePrevious-law}
+use Rattle.protocol.specs.Table.{Held, offers, Table, at, heldId, heldSigner, heldPrevious, offered, places, Ordered, nodeBy, tree, reach}
+use Rattle.protocol.specs.Places.{is1bAt, is2aAt, ballotAt}
 use Rattle.protocol.proofs.Table.{tree-is, node-cong, reach-is, reach-self, reach-le}
-use Rattle.protocol.proofs.Growth.{at-append, at-end, tree-append, reach-append, ordered-snoc, ordered-nil, length-tabulate, at-tabulate}
+use Rattle.protocol.proofs.Growth.{at-append, at-end, tree-append, reach-append, ordered-snoc, ordered-nil}
 use Rattle.protocol.proofs.Places.{is1b-at, is2a-at, ballotBy, ballot-at, forksHeld, forks-at}
 use Rattle.protocol.proofs.PlacesLearners.{lrns-at}
 use Rattle.derive.specs.declared.Note.{Note}
-use Rattle.derive.specs.PlaceSets.{inSet}
-use Rattle.derive.specs.Arrays.{Whole, isOffer, idIn, Lowest, Named}
-use Rattle.derive.specs.Records.{namedIn, referencesIn, recordIn, tableIn, Fit}
-use Rattle.derive.specs.Notes.{Noted, Known, Candidate, Told, Judged}
-use Rattle.derive.proofs.Membership.{has-zero, in-zero}
+use Rattle.scan.specs.PlaceSets.{inSet}
+use Rattle.scan.specs.Arrays.{Whole, isOffer}
+use Rattle.derive.specs.Notes.{Noted, Known, Told, Judged}
+use Rattle.scan.proofs.Membership.{has-zero, in-zero}
 
 -- ---- the notes of a place stay right
 pub noted-grows : (G : LearnerGraph) (t u : Table) → Ordered t → (i : ℕ) → i < length t → {low high forkLow forkHigh top learners freshes form : ℕ}

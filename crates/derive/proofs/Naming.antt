@@ -1,46 +1,24 @@
 -- Names: two places have one name exactly if they have one id.
-use mathlib.Core.Path.{_≡_, refl, sym, ap, subst, _∙_}
+use mathlib.Core.Path.{_≡_, refl, sym, ap, subst, _∙_, ap₂}
 use mathlib.Core.Logic.{_⊎_, inl, inr}
 use mathlib.Core.Bool.{Bool, true, false, not}
 use mathlib.Core.List.{List}
-use Prim.Native.Nat.{ℕ, _+_, _-_, _*_, _≤_, _<_}
-use native.Mathlib.Decide.{decLt, ℕ-discrete}
+use Prim.Native.Nat.{ℕ, _≤_, _<_}
+use native.Mathlib.Decide.{decLt}
 use native.Mathlib.Omega.{arith}
 use lib.Dec.{T, eqb, eqb→eq}
-use lib.ListN.{length, getD, take, drop, set}
-use lib.Seq.{getD-set-same, getD-set-other}
+use lib.ListN.{getD}
 use Rattle.base.proofs.Tests.{same-test, eq→eqb}
-use mathlib.Core.Path.{ap₂}
 use mathlib.Core.Option.{Option, none, some}
 use borrow.Author.Tests.{eq-eqb, ne-eqb}
 use Rattle.base.specs.Tests.{_∈_, pick}
 use Rattle.protocol.specs.Ids.{Id, sameId, samePrevious}
-use Rattle.protocol.specs.Table.{Held, offers, says, Table, at, tabulate, heldId, heldSigner, heldPrevious, offered, places}
+use Rattle.protocol.specs.Table.{Held, offers, says, tabulate, heldId, heldSigner, heldPrevious, offered}
 use Rattle.protocol.proofs.Growth.{length-tabulate, at-tabulate}
 use Rattle.derive.specs.Records.{namedIn, referencesIn, recordIn, Fit}
 use Rattle.derive.specs.Notes.{Candidate}
 use Rattle.protocol.proofs.Ids.{sameId-law}
-use Rattle.derive.specs.Arrays.{isOffer, idIn, Lowest, Named}
-
--- the part of the ids that the code lends
-pub lent : (ids : List ℕ) (i : ℕ) → take (32 * i + 32 - 32 * i) (drop (32 * i) ids) ≡ idIn ids i
-lent ids i = let e : 32 * i + 32 - 32 * i ≡ 32 = omega arith in ap (λ (k : ℕ). take k (drop (32 * i) ids)) e
-
-pub other : {t : Bool} → t ≡ true → t ≡ false → ⊥
-other p q = let z : _≡_ {A = ℕ} 0 1 = cc in omega arith
-
-pub named-more : (ids : List ℕ) (i : ℕ) (names : List ℕ) (k : ℕ) → i < 128 → length names ≡ 256 → Named ids i names → Lowest ids i (idIn ids i) k → Named ids (i + 1) (set names i k)
-named-more ids i names k l size old new =
-    record {
-      none = getD-set-other names i 255 k 0 (λ e. omega arith) ∙ old .none;
-      each = λ j h. step j h (ℕ-discrete j i);
-    }
-  where
-    step : (j : ℕ) → j < i + 1 → Dec (j ≡ i) → Lowest ids j (idIn ids j) (getD (set names i k) j 0)
-    step j h (yes e) =
-        subst (λ (x : ℕ). Lowest ids x (idIn ids x) (getD (set names i k) x 0)) (sym e)
-        (subst (λ (x : ℕ). Lowest ids i (idIn ids i) x) (sym (getD-set-same names i k 0 (omega arith))) new)
-    step j h (no e) = subst (λ (x : ℕ). Lowest ids j (idIn ids j) x) (sym (getD-set-other names i j k 0 e)) (old .each j (omega arith))
+use Rattle.scan.specs.Arrays.{isOffer, idIn, Lowest, Named}
 
 -- ---- the name of a place has its id
 own : (ids : List ℕ) (i r : ℕ) → Lowest ids i (idIn ids i) r → idIn ids r ≡ idIn ids i

@@ -1,21 +1,21 @@
 -- One place more of the pass, over the records that the arrays hold.
 use mathlib.Core.Path.{_≡_, refl, sym, ap, subst, _∙_}
-use mathlib.Core.Logic.{_⊎_, inl, inr}
-use mathlib.Core.Bool.{Bool, true, false, not, _||_}
+use mathlib.Core.Logic.{_⊎_}
+use mathlib.Core.Bool.{Bool, true, false, _||_}
 use mathlib.Core.List.{List, [], _∷_, _++_, List·Memᴰ·head, List·Memᴰ·tail}
 use Prim.Native.Nat.{ℕ, zero, suc, _+_, _-_, _*_, _≤_, _<_}
 use native.Mathlib.Numerals.{add-one}
 use native.Mathlib.Omega.{arith}
-use lib.Dec.{T, eqb}
-use lib.ListN.{length, getD, set, take, drop}
+use lib.Dec.{eqb}
+use lib.ListN.{getD, set, take, drop}
 use Rattle.base.specs.Tests.{_∈_}
 use Rattle.graph.specs.LearnerGraph.{LearnerGraph}
-use Rattle.protocol.specs.Table.{Held, offers, says, Table, at, tabulate, places, Ordered}
+use Rattle.protocol.specs.Table.{Held, says, tabulate, places, Ordered}
 use Rattle.protocol.proofs.Growth.{ordered-snoc, ordered-nil, length-tabulate, at-tabulate}
 use Rattle.derive.specs.declared.Note.{Note}
-use Rattle.derive.specs.PlaceSets.{inSet}
-use Rattle.derive.specs.Arrays.{Whole, isOffer, idIn, Named}
-use Rattle.derive.specs.Records.{namedIn, referencesIn, recordIn, tableIn, Fit}
+use Rattle.scan.specs.PlaceSets.{inSet}
+use Rattle.scan.specs.Arrays.{Whole, isOffer, idIn, Named}
+use Rattle.derive.specs.Records.{namedIn, referencesIn, recordIn, Fit}
 use Rattle.derive.specs.Notes.{Noted, NotedBy, Known, Candidate, Told}
 use Rattle.derive.proofs.Naming.{record-signer, record-kind, record-says, record-offers, candidate}
 use Rattle.derive.proofs.Growing.{noted-told, noted-offer, known-more}

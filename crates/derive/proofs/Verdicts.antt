@@ -1,21 +1,20 @@
 -- The report from the notes is the report of the definitions.
 use mathlib.Core.Path.{_≡_, refl, sym, ap, subst, _∙_}
-use mathlib.Core.Logic.{_⊎_, inl, inr, _≢_}
+use mathlib.Core.Logic.{_≢_}
 use mathlib.Core.Bool.{Bool, true, false, not, _&&_, _||_}
 use mathlib.Core.List.{List}
 use Prim.Native.Nat.{ℕ, zero, suc, _≤_, _<_}
 use native.Mathlib.Decide.{decLt, ℕ-discrete}
 use native.Mathlib.Omega.{arith}
-use lib.Dec.{T, eqb, ltb, ltb→lt, nltb→le, lt→ltb}
+use lib.Dec.{T, eqb, ltb, ltb→lt, lt→ltb}
 use lib.ListN.{length, getD}
-use Rattle.base.specs.Tests.{_∈_, pick, any, filter, below}
-use Rattle.base.specs.Sets.{has}
-use Rattle.base.proofs.Tests.{same-test, neqb→ne, ne→neqb, and-in, and-l, and-r, imp-in, imp-out, any-cong, any-filter, filter-in, filter-out, below-in, below-out}
+use Rattle.base.specs.Tests.{pick, any, filter, below}
+use Rattle.base.proofs.Tests.{neqb→ne, ne→neqb, and-in, and-l, and-r, imp-in, imp-out, any-cong, any-filter, filter-in, filter-out, below-in, below-out}
+use Rattle.base.specs.Ballots.{valueOf}
 use Rattle.graph.specs.LearnerGraph.{LearnerGraph, isQuorum}
 use Rattle.graph.proofs.LearnerGraph.{quorum-cong}
-use Rattle.protocol.specs.Message.{valueOf}
-use Rattle.protocol.specs.Report.{Verdict, undecided, decided, split}
-use Rattle.protocol.specs.Table.{Table, at, heldSigner, Ordered}
+use Rattle.protocol.specs.Report.{undecided, decided, split}
+use Rattle.protocol.specs.Table.{Table, at, heldSigner}
 use Rattle.protocol.specs.Places.{is2aAt, ballotAt, lrnsAt, decidesAt, reportAt}
 use Rattle.protocol.proofs.PlacesLearners.{decides-at, DecidingAt, report-at}
 use Rattle.derive.specs.declared.Least.{Least}

@@ -4,7 +4,7 @@ use mathlib.Core.Logic.{_⊎_, inl, inr}
 use mathlib.Core.Bool.{Bool, true, false, not, _&&_, _||_}
 use mathlib.Core.Option.{Option}
 use mathlib.Core.List.{List, [], _∷_, _++_, List·Memᴰ·head, List·Memᴰ·tail}
-use Prim.Native.Nat.{ℕ, zero, suc, _≤_, _<_, max}
+use Prim.Native.Nat.{ℕ, zero, suc, _≤_, _<_, max, _^_}
 use native.Mathlib.Decide.{decLt}
 use native.Mathlib.Omega.{arith}
 use borrow.Author.Tests.{ne-eqb, lt-ltb, le-ltb}
@@ -12,11 +12,12 @@ use lib.Dec.{T, eqb, ltb, eqb→eq, ltb→lt, lt→ltb, not-T, T-not}
 use lib.ListN.{length, getD}
 use Rattle.base.specs.Tests.{_∈_, pick, any, all, below}
 use Rattle.base.specs.Sets.{has}
-use Rattle.base.proofs.Tests.{same-test, dec-T, eq→eqb, neqb→ne, ne→neqb, and-in, and-l, and-r, and-cong, or-l, or-r, or-out, imp-in, imp-out, any-in, any-out, all-in, all-out, any-cong, any-not-all, below-in, below-out}
+use Rattle.base.proofs.Tests.{same-test, dec-T, eq→eqb, neqb→ne, and-in, and-l, and-r, and-cong, or-l, or-r, or-out, imp-in, imp-out, any-in, any-out, all-in, all-out, any-cong, any-not-all, below-in, below-out}
+use Rattle.base.specs.Ballots.{valueOf}
 use Rattle.graph.specs.LearnerGraph.{LearnerGraph, isQuorum, safeWithout}
 use Rattle.graph.proofs.LearnerGraph.{quorum-cong, without-cong}
 use Rattle.protocol.specs.Ids.{Id, sameId, samePrevious}
-use Rattle.protocol.specs.Message.{Message, isProposal, is1b, is2a, tran, ballot, valueOf, value, forks}
+use Rattle.protocol.specs.Message.{Message, isProposal, is1b, is2a, tran, ballot, value, forks}
 use Rattle.protocol.specs.Learners.{fresh, lrns}
 use Rattle.protocol.specs.Table.{Held, says, Table, at, heldId, heldSigner, heldPrevious, offered, places, Ordered, tree, reach}
 use Rattle.protocol.specs.Places.{is1bAt, is2aAt, ballotAt, valueAt, caughtAt, formed1bAt, conAt, buriedAt, freshAt, lrnsAt, formed2aAt}
@@ -26,18 +27,15 @@ use Rattle.protocol.proofs.Growth.{at-append, at-end, tree-append, reach-append
 use Rattle.protocol.proofs.Loops.{any-beneath}
 use Rattle.protocol.proofs.Places.{is1b-at, is2a-at, ballotBy, ballot-at, forksHeld, forks-at, caught-at, formed1b-at}
 use Rattle.protocol.proofs.Places as law
-use Rattle.protocol.proofs.PlacesLearners.{con-at, buried-at, fresh-at, lrns-at}
-use Rattle.derive.specs.PlaceSets.{inSet, meets}
-use Rattle.derive.specs.Arrays.{highest, isOffer, Beneath, isFork, isCaught, isVote, voteBallot, peaksOf, isBuried, isOpposed, isBarred, isBacker, backedBy, isCrowding}
-use Rattle.derive.specs.declared.Note.{Note}
-use Rattle.derive.specs.Notes.{Noted, Known, Candidate, Told}
+use Rattle.protocol.proofs.PlacesLearners.{con-at, buried-at, fresh-at, lrns-at, formed2a-at}
+use Rattle.scan.specs.PlaceSets.{inSet, meets}
+use Rattle.scan.specs.Arrays.{highest, isOffer, Beneath, isFork, isCaught, isVote, voteBallot, peaksOf, isBuried, isOpposed, isBarred, isBacker, backedBy, isCrowding}
+use Rattle.derive.specs.Notes.{Known, Candidate, Told}
 use Rattle.base.proofs.Bits.{some-bit}
 use native.Mathlib.Nat.{pow-suc}
-use Prim.Native.Nat.{_*_, _^_}
-use Rattle.protocol.proofs.PlacesLearners.{formed2a-at}
-use Rattle.derive.proofs.Membership.{has-zero}
-use Rattle.derive.proofs.Loops.{any-at}
-use Rattle.derive.proofs.Burying.{buried-by-peaks}
+use Rattle.scan.proofs.Membership.{has-zero}
+use Rattle.scan.proofs.Loops.{any-at}
+use Rattle.scan.proofs.Burying.{buried-by-peaks}
 
 -- ---- forks of records
 fork-signer : (x y : Held) → T (forksHeld x y) → heldSigner x ≡ heldSigner y

@@ -6,8 +6,8 @@ use lib.Dec.{eqb, ltb}
 use lib.ListN.{getD}
 use Rattle.base.specs.Tests.{pick, any, below}
 use Rattle.base.specs.Sets.{has}
+use Rattle.base.specs.Ballots.{valueOf}
 use Rattle.graph.specs.LearnerGraph.{LearnerGraph, isQuorum}
-use Rattle.protocol.specs.Message.{valueOf}
 use Rattle.protocol.specs.Report as paper
 use Rattle.derive.specs.declared.Least.{Least}
 use Rattle.derive.specs.declared.Verdict.{Verdict}

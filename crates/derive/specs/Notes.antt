@@ -1,9 +1,9 @@
 -- What is noted of a held message, and what is worked out for a message from the notes of the places before it, in the terms of the
 -- definitions (protocol/specs). The table t holds the places before it; a message that is worked out is one more record at its end.
 use mathlib.Core.Path.{_≡_}
-use mathlib.Core.Bool.{Bool, not, _&&_}
+use mathlib.Core.Bool.{not, _&&_}
 use mathlib.Core.Option.{Option}
-use mathlib.Core.List.{List, [], _∷_, _++_}
+use mathlib.Core.List.{List}
 use Prim.Native.Nat.{ℕ, _≤_, _<_}
 use lib.Dec.{T, eqb, ltb}
 use lib.ListN.{length, getD}
@@ -14,11 +14,11 @@ use Rattle.graph.specs.Held.{Sized}
 use Rattle.protocol.specs.Ids.{Id, sameId, samePrevious}
 use Rattle.protocol.specs.Message.{Message, isProposal, forks, tran}
 use Rattle.protocol.specs.WellFormed.{formed1b, formed2a}
-use Rattle.protocol.specs.Table.{Held, says, Table, at, heldId, heldSigner, heldPrevious, offered, Ordered, tree, reach}
+use Rattle.protocol.specs.Table.{Table, at, heldId, heldSigner, heldPrevious, offered, Ordered, tree, reach}
 use Rattle.protocol.specs.Places.{is1bAt, is2aAt, ballotAt, caughtAt, formed1bAt, freshAt, lrnsAt, formed2aAt}
 use Rattle.derive.specs.declared.Note.{Note}
-use Rattle.derive.specs.PlaceSets.{inSet}
-use Rattle.derive.specs.Arrays.{Whole, isOffer}
+use Rattle.scan.specs.PlaceSets.{inSet}
+use Rattle.scan.specs.Arrays.{Whole, isOffer}
 
 -- ---- the notes of place i are right: the places that it reaches, those before it that fork with it, its ballot, whether it is a 1b or a
 -- 2a, its learners, and the learners that it is fresh for

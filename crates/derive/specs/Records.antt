@@ -1,7 +1,7 @@
 -- The table that the arrays of a round hold: place p of each array belongs to the p-th held message.
 use mathlib.Core.Path.{_≡_}
 use mathlib.Core.Logic.{_⊎_}
-use mathlib.Core.Bool.{Bool, false}
+use mathlib.Core.Bool.{false}
 use mathlib.Core.Option.{Option, none, some}
 use mathlib.Core.List.{List}
 use Prim.Native.Nat.{ℕ, _*_, _≤_, _<_}
@@ -9,10 +9,9 @@ use lib.Dec.{eqb}
 use lib.ListN.{length, getD}
 use Rattle.base.specs.Tests.{_∈_, pick}
 use Rattle.base.specs.Bytes.{part}
-use Rattle.graph.specs.Held.{Sized}
 use Rattle.protocol.specs.Ids.{Id}
 use Rattle.protocol.specs.Table.{Held, offers, says, Table, tabulate}
-use Rattle.derive.specs.Arrays.{Whole, isOffer, idIn}
+use Rattle.scan.specs.Arrays.{Whole, isOffer, idIn}
 
 -- the id of a place, or none for 255
 abbrev pub namedIn : List ℕ → ℕ → Option Id

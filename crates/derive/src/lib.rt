@@ -1,34 +1,10 @@
 // What follows from the messages that a round holds: for each place what lies beneath it, its ballot, whether it is a 1b or a 2a, for which
 // learners it is fresh or counts, and whether it is well-formed. One pass over the places, each from those before it; the arrays are lent.
+use scan::Places;
 
-pub mod beneath;
-pub mod forks;
-pub mod learners;
-pub mod names;
 pub mod pass;
 pub mod report;
-pub mod sets;
 pub mod step;
-
-// A set of places: bit j of low is place j, bit j of high place 64 + j.
-pub struct Places {
-    pub low: u64,
-    pub high: u64,
-}
-
-// What lies beneath a message: a set of places, its ballot, and whether it refers to a proposal.
-pub struct Under {
-    pub low: u64,
-    pub high: u64,
-    pub ballot: u64,
-    pub offered: bool,
-}
-
-// The highest of some ballots, and the highest of another value than that one's; 0 where there is none.
-pub struct Peaks {
-    pub best: u64,
-    pub other: u64,
-}
 
 // What is worked out for a message.
 pub struct Note {

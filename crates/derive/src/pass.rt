@@ -1,22 +1,22 @@
 // The pass over the places of a round, in order: each is worked out from the notes of those before it, and its notes are put down.
 use crate::Note;
 use crate::Notes;
-use crate::Places;
-use crate::names::name_of;
-use crate::names::names_of;
-use crate::sets::with_place;
 use crate::step::step;
 use base::size;
 use graph::Mask;
+use scan::Places;
+use scan::names::name_of;
+use scan::names::names_of;
+use scan::sets::with_place;
 ghost use mathlib.Core.Path.{_≡_};
 ghost use mathlib.Core.Logic.{_⊎_};
-ghost use mathlib.Core.List.{List, [], _∷_, _++_};
+ghost use mathlib.Core.List.{List, []};
 ghost use Prim.Native.Nat.{ℕ, suc, _≤_, _<_};
-ghost use lib.ListN.{length, getD};
+ghost use lib.ListN.{length};
 ghost use Rattle.base.specs.Tests.{_∈_};
 ghost use Rattle.graph.specs.Held.{heldGraph, Sized};
 ghost use Rattle.protocol.specs.Table.{says, nodeBy, tree};
-ghost use Rattle.derive.specs.Arrays.{Whole, Named};
+ghost use Rattle.scan.specs.Arrays.{Whole, Named};
 ghost use Rattle.derive.specs.Records.{namedIn, tableIn, Fit, Lengths};
 ghost use Rattle.derive.specs.Notes.{NotedBy, Known, Judged, Ready};
 

@@ -1,24 +1,21 @@
 // The report for a learner, from the notes of the places of a round.
 use crate::Least;
 use crate::Verdict;
-use crate::learners::value;
-use crate::sets::has_learner;
-use crate::sets::with_acceptor;
 use graph::Mask;
 use graph::lists::is_quorum;
+use scan::learners::value;
+use scan::sets::has_learner;
+use scan::sets::with_acceptor;
 ghost use mathlib.Core.Path.{_≡_};
-ghost use mathlib.Core.Bool.{not, _&&_, _||_};
-ghost use mathlib.Core.List.{List};
 ghost use Prim.Native.Nat.{ℕ, _≤_, _<_};
-ghost use lib.Dec.{eqb};
 ghost use lib.ListN.{length, getD};
-ghost use Rattle.base.specs.Tests.{any, filter, below};
+ghost use Rattle.base.specs.Tests.{filter, below};
 ghost use Rattle.base.specs.Sets.{has};
 ghost use Rattle.graph.specs.LearnerGraph.{isQuorum};
 ghost use Rattle.graph.specs.Held.{heldGraph, Sized};
 ghost use Rattle.protocol.specs.Table.{Table};
 ghost use Rattle.protocol.specs.Places.{reportAt};
-ghost use Rattle.derive.specs.Arrays.{Whole};
+ghost use Rattle.scan.specs.Arrays.{Whole};
 ghost use Rattle.derive.specs.Deciding.{isKnownIn, isVoter, votersFor, isDeciding, lowered, leastOf, shown};
 ghost use Rattle.derive.specs.Notes.{Known};
 

@@ -1,11 +1,11 @@
 -- Laws of the padded message and of its blocks: how long the last blocks are, how a buffer of zeros is filled with them, and where each
 -- block stands in the message and in the last blocks.
-use mathlib.Core.Path.{_≡_, refl, ap, ap₂, sym, _∙_}
+use mathlib.Core.Path.{_≡_, ap, sym, _∙_}
 use mathlib.Core.List.{List, [], _∷_, _++_, append-assoc}
-use Prim.Native.Nat.{ℕ, zero, suc, _+_, _-_, _*_, _/_, _%_, _^_, _≤_, _<_}
+use Prim.Native.Nat.{ℕ, suc, _+_, _-_, _*_, _/_, _%_, _^_, _≤_, _<_}
 use native.Mathlib.Omega.{arith}
-use lib.ListN.{length, take, drop, replicate, length-append, length-take, length-drop, length-replicate, replicate-append-replicate}
-use lib.Seq.{take-at, drop-at, take-append-le, drop-append-le, take-append-add, take-take, take-all, drop-drop, length-take-le}
+use lib.ListN.{length, take, drop, replicate, length-append, length-drop, length-replicate, replicate-append-replicate}
+use lib.Seq.{take-at, drop-at, take-append-le, drop-append-le, take-append-add, take-take, take-all, drop-drop}
 use Rattle.base.specs.Bytes.{bytes, putAt}
 use Rattle.digest.specs.Preprocessing.{zeroBits, padding, padded, lastBlocks, block}
 

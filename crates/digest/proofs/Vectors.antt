@@ -1,7 +1,6 @@
 -- The definition computes: two of the digests that NIST publishes with FIPS 180-4, found by the checker itself.
 use mathlib.Core.Path.{_≡_, refl}
-use mathlib.Core.List.{List, [], _∷_, _++_}
-use Prim.Native.Nat.{ℕ}
+use mathlib.Core.List.{[], _∷_}
 use Rattle.base.specs.Bytes.{be, bytes}
 use Rattle.digest.specs.Constants.{constants}
 use Rattle.digest.specs.Preprocessing.{padding, padded, words}

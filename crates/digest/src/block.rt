@@ -1,6 +1,5 @@
 // FIPS 180-4, section 6.2.2: the hash value after one block.
 ghost use mathlib.Core.Path.{_≡_};
-ghost use Prim.Native.Nat.{ℕ, _≤_};
 ghost use lib.ListN.{length};
 ghost use Rattle.digest.specs.Sha256.{schedule, round, rounds, added, compressed};
 use crate::State;

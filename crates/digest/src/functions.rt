@@ -1,6 +1,6 @@
 // FIPS 180-4, sections 3.2 and 4.1.2: rotation, and the six functions, on words of 32 bits.
 ghost use mathlib.Core.Path.{_≡_};
-ghost use Prim.Native.Nat.{ℕ, _<_};
+ghost use Prim.Native.Nat.{_<_};
 ghost use Rattle.digest.specs.Operations.{ROTR};
 ghost use Rattle.digest.specs.Functions.{Ch, Maj, Σ0, Σ1, σ0, σ1};
 

@@ -1,6 +1,6 @@
 // SHA-256 of FIPS 180-4. The definitions in specs/ transcribe the standard; sha256 answers what they say, for a message of any length.
 ghost use mathlib.Core.Path.{_≡_};
-ghost use Prim.Native.Nat.{ℕ, _/_};
+ghost use Prim.Native.Nat.{_/_};
 ghost use lib.ListN.{length};
 ghost use Rattle.digest.specs.Preprocessing.{padded, initial};
 ghost use Rattle.digest.specs.Sha256.{hash, joined, sha256};

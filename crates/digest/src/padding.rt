@@ -1,6 +1,5 @@
 // FIPS 180-4, section 5.1.1: the last one or two blocks, which hold the end of the message and its padding.
 ghost use mathlib.Core.Path.{_≡_};
-ghost use Prim.Native.Nat.{ℕ};
 ghost use lib.ListN.{length, take};
 ghost use Rattle.digest.specs.Preprocessing.{lastBlocks};
 use base::put_all;

@@ -1,7 +1,7 @@
 // Runs SHA-256 on the vectors that NIST publishes with FIPS 180-4 and on messages at the padding's edges, and prints how many failed.
 // The expected digests are the published ones and, for the edges, those of the tool sha256sum.
 ghost use mathlib.Core.Path.{_≡_};
-ghost use Prim.Native.Nat.{ℕ, _+_, _≤_, _<_};
+ghost use Prim.Native.Nat.{_+_, _≤_, _<_};
 ghost use lib.ListN.{length};
 use base::read64;
 use digest::sha256;

@@ -1,9 +1,3 @@
--- Loops that count up
-pub mod Upward
--- The tests of a round over its arrays, lent one by one
-pub mod Lent
--- What a reply refers to, and its bytes
-pub mod Sender
 -- What the work-out pass asks of a round
 pub mod Worked
 -- A reply that was formed, and what follows on it
@@ -14,3 +8,5 @@ pub mod Taking
 pub mod Entering
 -- An acceptor message that was read
 pub mod Voting
+-- The order of a delivery's checks
+pub mod Delivering

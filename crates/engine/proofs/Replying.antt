@@ -17,10 +17,10 @@ use Rattle.round.specs.Held.{graphOf}
 use Rattle.round.specs.Reply.{replyPlaces, replyBytes, isSent}
 use Rattle.round.specs.Delivery.{Result}
 use Rattle.round.proofs.Chosen.{chosen-out}
-use Rattle.engine.specs.declared.reply.Reply.{Reply}
-use Rattle.engine.specs.Sender.{sender, filled, replyAs}
+use Rattle.steps.specs.declared.reply.Reply.{Reply}
+use Rattle.steps.specs.Sender.{sender, filled, replyAs}
 use Rattle.engine.specs.Giving.{Gives}
-use Rattle.engine.proofs.Sender.{chosen-length, filled-front, filled-length, reply-places, reply-lent}
+use Rattle.steps.proofs.Sender.{chosen-length, filled-front, filled-length, reply-places, reply-lent}
 
 abbrev pub lentBy : Round → ℕ → Round
 lentBy r n = sender (r .house) (r .bay) (r .own) (r .last) (r .ids) (r .recent) n

@@ -1,5 +1,5 @@
 -- The rows of a message in their order, as they are asked.
-use mathlib.Core.Path.{_≡_, refl, sym, subst}
+use mathlib.Core.Path.{_≡_, refl, ap, sym, subst, _∙_}
 use mathlib.Core.Bool.{Bool, true, false}
 use mathlib.Core.Option.{Option, none, some}
 use mathlib.Core.List.{List}
@@ -7,7 +7,7 @@ use Prim.Native.Nat.{ℕ}
 use native.Mathlib.Omega.{arith}
 use Rattle.base.specs.Tests.{pick}
 use Rattle.base.specs.declared.refusal.Refusal.{Refusal}
-use Rattle.base.specs.declared.refusal.Refusal.the-variants.{OtherRound, Signer, Known, Reference, Previous, NoProposal, Malformed1b, Malformed2a, Full}
+use Rattle.base.specs.declared.refusal.Refusal.the-variants.{OtherRound, Signer, Known, Reference, Previous, Full}
 use Rattle.message.specs.declared.Proposal.{Proposal}
 use Rattle.message.specs.declared.AcceptorMessage.{AcceptorMessage}
 use Rattle.protocol.specs.Ids.{Id}
@@ -19,34 +19,39 @@ use Rattle.round.specs.Delivery.{decidedBy, entered}
 use Rattle.engine.specs.Giving.{Gives, refusal}
 use Rattle.engine.proofs.Replying.{front-none}
 use Rattle.round.specs.declared.Round.{Round}
-use Rattle.round.specs.Rows.{otherRound, foreign, isKnownId, lacks, unchained, ungrounded, malformed1b, malformed2a, full, proposalRows, acceptorRows, firstOf}
+use Rattle.round.specs.Rows.{otherRound, foreign, isKnownId, lacks, unchained, ungrounded, full, proposalRows, acceptorRows, firstOf}
 use Rattle.engine.specs.declared.take.Row.the-variants.{Clear, Applies}
-use Rattle.engine.specs.Turning.{rowOf, headRow}
+use Rattle.engine.specs.Turning.{rowOf, headRow, chainRow, soundRow}
 
 pub proposal-row : (r : Round) (i : Id) (m : Proposal)
     → firstOf (proposalRows r i m) ≡ pick (otherRound r (m .house) (m .bay)) (some OtherRound) (pick (isKnownId r i) (some Known) (pick (full r i) (some Full) none))
 unfolding proposalRows firstOf
 proposal-row r i m = refl
 
--- the first row that applies of those of two parts, with two rows between them
+-- the first row that applies, of those of two parts
 abbrev pub orElse : Option Refusal → Option Refusal → Option Refusal
 orElse none o = o
 orElse (some e) o = some e
 
 pub acceptor-row : (r : Round) (i : Id) (m : AcceptorMessage) (previous : Option Id) (ids : List Id) (tree : Message)
     → firstOf (acceptorRows r i m previous ids tree)
-    ≡ orElse (headRow r i (m .house) (m .bay) (m .signer))
-    (pick (lacks r ids) (some Reference) (pick (unchained r (m .signer) ids previous) (some Previous)
-    (pick (ungrounded r tree) (some NoProposal) (pick (malformed1b r tree) (some Malformed1b) (pick (malformed2a r tree) (some Malformed2a) (pick (full r i) (some Full) none))))))
-unfolding acceptorRows firstOf
-acceptor-row r i m previous ids tree = step (otherRound r (m .house) (m .bay)) (foreign r (m .signer)) (isKnownId r i) _
+    ≡ orElse (headRow r i (m .house) (m .bay) (m .signer)) (orElse (chainRow (lacks r ids) (unchained r (m .signer) ids previous)) (soundRow r i tree))
+unfolding acceptorRows firstOf ungrounded
+acceptor-row r i m previous ids tree =
+    head (otherRound r (m .house) (m .bay)) (foreign r (m .signer)) (isKnownId r i) _
+    ∙ ap (orElse (headRow r i (m .house) (m .bay) (m .signer))) (chain (lacks r ids) (unchained r (m .signer) ids previous) (soundRow r i tree))
   where
-    step : (a b c : Bool) (o : Option Refusal)
+    head : (a b c : Bool) (o : Option Refusal)
         → pick a (some OtherRound) (pick b (some Signer) (pick c (some Known) o)) ≡ orElse (pick a (some OtherRound) (pick b (some Signer) (pick c (some Known) none))) o
-    step true b c o = refl
-    step false true c o = refl
-    step false false true o = refl
-    step false false false o = refl
+    head true b c o = refl
+    head false true c o = refl
+    head false false true o = refl
+    head false false false o = refl
+
+    chain : (a b : Bool) (o : Option Refusal) → pick a (some Reference) (pick b (some Previous) o) ≡ orElse (chainRow a b) o
+    chain true b o = refl
+    chain false true o = refl
+    chain false false o = refl
 
 -- a row that is told is the one that applies
 pub row-applies : (o : Option Refusal) (e : Refusal) → rowOf o ≡ Applies e → o ≡ some e
@@ -56,6 +61,9 @@ row-applies (some x) e h = cc
 pub row-clear : (o : Option Refusal) → rowOf o ≡ Clear → o ≡ none
 row-clear none h = refl
 row-clear (some x) h = absurd (let z : _≡_ {A = ℕ} 0 1 = cc in omega arith)
+
+pub applies-clear : (e : Refusal) → Applies e ≡ Clear → ⊥
+applies-clear e h = let z : _≡_ {A = ℕ} 0 1 = cc in omega arith
 
 -- ---- rows 8, 9 and 10: the first that applies is told
 module _ (a b c : Bool) where
@@ -70,6 +78,23 @@ module _ (a b c : Bool) where
 
   pub head-clear : a ≡ false → b ≡ false → c ≡ false → Clear ≡ rowOf (pick a (some OtherRound) (pick b (some Signer) (pick c (some Known) none)))
   head-clear e f g = simp (e, f, g)
+
+-- ---- rows 11 and 12
+module _ (a b : Bool) where
+  pub chain-lacks : a ≡ true → Applies Reference ≡ rowOf (chainRow a b)
+  chain-lacks e = simp e
+
+  pub chain-apart : a ≡ false → b ≡ true → Applies Previous ≡ rowOf (chainRow a b)
+  chain-apart e f = simp (e, f)
+
+  pub chain-clear : a ≡ false → b ≡ false → Clear ≡ rowOf (chainRow a b)
+  chain-clear e f = simp (e, f)
+
+-- where neither applies, no reference lacks, and the previous message is named rightly
+pub chain-none : (a b : Bool) → chainRow a b ≡ none → (a ≡ false) × (b ≡ false)
+chain-none true b e = absurd (let z : _≡_ {A = ℕ} 0 1 = cc in omega arith)
+chain-none false true e = absurd (let z : _≡_ {A = ℕ} 0 1 = cc in omega arith)
+chain-none false false e = (refl, refl)
 
 -- ---- rows 8, 10 and 16 of a proposal
 module _ (a b c : Bool) where
@@ -89,9 +114,9 @@ module _ (a b c : Bool) where
   three-none e f g = simp (e, f, g)
 
 -- ---- refused by the row that applies, or entered
-module _ (H : List ℕ → Id) (r : Round) (i : Id) (h : Held) (o : Option Refusal) (x : Delivered) (before after : List ℕ) where
+module _ (H : List ℕ → Id) (r : Round) (i : Id) (h : Held) (o : Option Refusal) (x : Delivered) (before : List ℕ) where
   pub taken-refused : (e : Refusal) → o ≡ some e → x ≡ refusal r e → Gives (decidedBy H r i h o) x before before
   taken-refused e q p = subst (λ (y : Option Refusal). Gives (decidedBy H r i h y) x before before) (sym q) (p, front-none before)
 
-  pub taken-entered : o ≡ none → Gives (entered H r h (placeOf r i)) x before after → Gives (decidedBy H r i h o) x before after
-  taken-entered q g = subst (λ (y : Option Refusal). Gives (decidedBy H r i h y) x before after) (sym q) g
+  pub taken-entered : (after : List ℕ) → o ≡ none → Gives (entered H r h (placeOf r i)) x before after → Gives (decidedBy H r i h o) x before after
+  taken-entered after q g = subst (λ (y : Option Refusal). Gives (decidedBy H r i h y) x before after) (sym q) g

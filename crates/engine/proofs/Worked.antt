@@ -16,28 +16,22 @@ use Rattle.graph.specs.LearnerGraph.{LearnerGraph}
 use Rattle.graph.specs.Held.{heldGraph, Sized}
 use Rattle.protocol.specs.Table.{Held, Table, nodeBy, tree}
 use Rattle.protocol.specs.Places.{reportAt}
-use Rattle.protocol.proofs.Growth.{length-tabulate}
 use Rattle.derive.specs.declared.Note.{Note}
+use Rattle.derive.specs.declared.Notes.{Notes}
+use Rattle.scan.specs.Arrays.{Named}
 use Rattle.derive.specs.Deciding.{isKnownIn, shown}
-use Rattle.derive.specs.Notes.{Judged}
+use Rattle.derive.specs.Notes.{Known, Judged}
 use Rattle.derive.specs.Records.{tableIn, Fit, Lengths}
 use Rattle.round.specs.declared.Round.{Round}
 use Rattle.round.specs.declared.Report.the-variants.{Refused}
-use Rattle.round.specs.Held.{graphOf, knownMessages, tableOf, recordAt, referencesAt, isProposalAt}
+use Rattle.round.specs.Held.{graphOf, knownMessages, referencesAt, isProposalAt}
 use Rattle.round.specs.Handed.{listFits, graphFits, refersBack, fits}
 use Rattle.round.specs.Rows.{messageOf}
 use Rattle.round.specs.Report.{told, reported}
 use Rattle.round.proofs.Fitting.{Fitting, place-cases}
-use Rattle.engine.specs.Lent.{answerTo}
+use Rattle.engine.specs.Telling.{answerTo}
 
 module _ (r : Round) where
-  -- the table of the arrays is the round's
-  pub table-lent : tableOf r ≡ tableIn (r .ids) (r .kinds) (r .signers) (r .ballots) (r .previous) (r .counts) (r .references) (r .held)
-  table-lent = refl
-
-  pub table-length : length (tableOf r) ≡ r .held
-  table-length = length-tabulate (r .held) (recordAt r)
-
   -- an acceptor message refers to earlier places
   back-in : (p : ℕ) → T (refersBack r p) → isProposalAt r p ≡ false → (j : ℕ) → j ∈ referencesAt r p → j < p
   unfolding refersBack
@@ -118,6 +112,15 @@ module _ (r : Round) where
 
   abbrev pub graphTo : ℕ → LearnerGraph
   graphTo l = heldGraph (r .graph .acceptors) l (r .graph .counts) (r .graph .masks)
+
+  -- the notes of l learners and n places, and those of as many
+  abbrev pub NotesTo : ℕ → ℕ → Notes → Type 0
+  NotesTo l n x =
+      Named (r .ids) n (x .names)
+      × Known (graphTo l) (tableTo n) (r .kinds) (r .signers) (x .low) (x .high) (x .forklow) (x .forkhigh) (x .tops) (x .learners) (x .fresh) (x .forms)
+
+  pub notes-lent : (l l′ n n′ : ℕ) (x : Notes) → l ≡ l′ → n ≡ n′ → NotesTo l n x → NotesTo l′ n′ x
+  notes-lent l l′ n n′ x e g h = subst (λ (k : ℕ). NotesTo k n′ x) e (subst (λ (k : ℕ). NotesTo l k x) g h)
 
   -- what the pass says is said of the round
   pub reported-lent : (l n a : ℕ) → l ≡ r .graph .learners → n ≡ r .held

@@ -1,7 +1,5 @@
--- The tests of a round over its arrays, lent one by one
-pub mod Lent
--- The reply over what a round lends
-pub mod Sender
+-- A verdict as a report answers it
+pub mod Telling
 -- What the steps of a delivery give
 pub mod Giving
 -- Rows 8 to 16 as they are asked

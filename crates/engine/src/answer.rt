@@ -1,20 +1,19 @@
 // After acceptance: the reply to a message that the round holds, sent or not.
-use crate::hold::hold_vote;
-use crate::hold::joined;
-use crate::hold::sent;
 use crate::judge::judge;
-use crate::lookup::named_place;
-use crate::reply::form_reply;
 use base::put_all;
 use base::size;
 use digest::sha256;
 use round::Delivered;
 use round::Outcome;
 use round::Round;
+use steps::hold::hold_vote;
+use steps::hold::joined;
+use steps::hold::sent;
+use steps::lookup::named_place;
+use steps::reply::form_reply;
 ghost use mathlib.Core.Path.{_≡_};
-ghost use mathlib.Core.List.{[]};
-ghost use Prim.Native.Nat.{_≤_, _<_};
-ghost use lib.ListN.{length, take, set, replicate};
+ghost use Prim.Native.Nat.{_<_};
+ghost use lib.ListN.{take, set, replicate};
 ghost use Rattle.digest.specs.Sha256.{sha256};
 ghost use Rattle.protocol.specs.Table.{says};
 ghost use Rattle.round.specs.Held.{named};

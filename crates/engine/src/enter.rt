@@ -1,14 +1,14 @@
 // An accepted message becomes known: at the place where it awaited its return, or behind the others. Then it is answered.
 use crate::answer::process;
-use crate::hold::hold_proposal;
-use crate::hold::hold_vote;
-use crate::hold::returned;
-use crate::lookup::Found;
-use crate::lookup::place_of;
-use crate::lookup::previous_place;
 use base::size;
 use round::Delivered;
 use round::Round;
+use steps::hold::hold_proposal;
+use steps::hold::hold_vote;
+use steps::hold::returned;
+use steps::lookup::Found;
+use steps::lookup::place_of;
+use steps::lookup::previous_place;
 ghost use mathlib.Core.Path.{_≡_};
 ghost use mathlib.Core.Option.{none};
 ghost use Prim.Native.Nat.{_≤_};
@@ -19,7 +19,7 @@ ghost use Rattle.protocol.specs.Table.{offers, says};
 ghost use Rattle.round.specs.Held.{placeOf};
 ghost use Rattle.round.specs.Delivery.{entered};
 ghost use Rattle.round.specs.Demands.{Typed};
-ghost use Rattle.engine.specs.Lent.{previousIn};
+ghost use Rattle.steps.specs.Lent.{previousIn};
 ghost use Rattle.engine.specs.Giving.{Gives, Enterable, Referring};
 
 // A round and an id are as their types have them. Nothing is computed; the proofs lean on it.

@@ -1,8 +1,8 @@
 // An acceptor message that a round does not hold, judged by what the round holds.
+use crate::meaning::notes_of;
 use base::size;
 use derive::Note;
 use derive::pass::note_new;
-use derive::pass::work_out;
 use round::Round;
 ghost use mathlib.Core.Path.{_≡_};
 ghost use mathlib.Core.Logic.{_⊎_};
@@ -20,22 +20,9 @@ pub fn judge<'a>(round: Round, id: &'a [u8], places: &'a [u8], signer: u8, previ
     requires { ⌜ T (fits round) × (((previous ≡ 255) ⊎ (previous < round .held)) × ((j : ℕ) → j ∈ (now places) → j < round .held)) ⌝ }
     ensures { λ r. ⌜ Judged (graphOf round) (messageOf round (says (now (id .entry)) signer (named round previous) (now (places .entry)))) r ⌝ }
 {
+    let notes = notes_of(round);
     let learners = size(round.graph.learners);
     let held = size(round.held);
-    let notes = work_out(
-        &round.graph.counts,
-        &round.graph.masks,
-        &round.ids,
-        &round.kinds,
-        &round.signers,
-        &round.ballots,
-        &round.previous,
-        &round.counts,
-        &round.references,
-        round.graph.acceptors,
-        learners,
-        held,
-    );
     note_new(
         &round.graph.counts,
         &round.graph.masks,

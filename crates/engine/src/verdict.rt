@@ -1,7 +1,7 @@
 // The report for a learner: what the held messages mean is worked out, and the known ones are asked.
+use crate::meaning::notes_of;
 use base::size;
 use derive::Verdict;
-use derive::pass::work_out;
 use derive::report::report_for;
 use round::Report;
 use round::Round;
@@ -12,29 +12,16 @@ ghost use Rattle.protocol.specs.Report.{report};
 ghost use Rattle.derive.specs.Deciding.{shown};
 ghost use Rattle.round.specs.Held.{graphOf, knownMessages};
 ghost use Rattle.round.specs.Handed.{fits};
-ghost use Rattle.engine.specs.Lent.{answerTo};
+ghost use Rattle.engine.specs.Telling.{answerTo};
 
 // The verdict for a learner of the graph.
 pub fn verdict_for(round: Round, learner: usize) -> Verdict
     requires { ⌜ T (fits round) × (learner < round .graph .learners) ⌝ }
     ensures { λ r. ⌜ r ≡ shown (report (graphOf round) (knownMessages round) learner) ⌝ }
 {
+    let notes = notes_of(round);
     let learners = size(round.graph.learners);
     let held = size(round.held);
-    let notes = work_out(
-        &round.graph.counts,
-        &round.graph.masks,
-        &round.ids,
-        &round.kinds,
-        &round.signers,
-        &round.ballots,
-        &round.previous,
-        &round.counts,
-        &round.references,
-        round.graph.acceptors,
-        learners,
-        held,
-    );
     report_for(
         &round.graph.counts,
         &round.graph.masks,

@@ -7,22 +7,20 @@ use native.Mathlib.Numerals.{add-one}
 use native.Mathlib.Omega.{arith}
 use borrow.Author.Tests.{eqb-true, ltb-true, ltb-false, leb-true}
 use lib.Dec.{T, eqb, ltb, leb}
-use lib.ListN.{length, getD, drop, length-drop, length-append, drop-of-length-le}
+use lib.ListN.{length, getD, drop, length-drop}
 use lib.Seq.{drop-cons, ext-getD, drop-length}
 use Rattle.base.specs.Tests.{_∈_, pick}
 use Rattle.base.specs.Bytes.{be}
-use Rattle.base.proofs.Bytes.{be1}
 use Rattle.base.specs.declared.refusal.Refusal.{Refusal}
 use Rattle.base.specs.declared.refusal.Refusal.the-variants.{Length, Version, Range, NotValid, NotCondensed}
-use Rattle.graph.specs.declared.Answer.{Answer}
 use Rattle.graph.specs.declared.Answer.the-variants.{Accepted, Refused}
 use Rattle.graph.specs.declared.Graph.{Graph}
-use Rattle.graph.specs.Limits.{version, maxLearners, maxAcceptors, maxMasks}
+use Rattle.graph.specs.Limits.{version, maxLearners, maxAcceptors}
 use Rattle.graph.specs.LearnerGraph.{LearnerGraph, valid, condensed}
-use Rattle.graph.specs.File.{Got, got, no, andThen, maskAnswer, readVersion, readCount, readMasks, readList, readLists, readRows, Contents, readGraph, contents, graphOf, graphAnswer, answerOf, contentsAnswer}
-use Rattle.graph.specs.Held.{Held, heldOf, heldGraph, graphOfHeld, viewOf, graphReading, contentsReading, readingOf, pairList, triangle, listOf}
-use Rattle.graph.specs.Theorems.{SameGraph, Undirected, Sound, HeldSaysTheSame, AcceptedIsSound, FilesDiffer}
-use Rattle.graph.proofs.Reader.{Small, Rows, GraphGot, pick-got, check-got, then-got, graph-got, lists-got, list-got}
+use Rattle.graph.specs.File.{Got, got, no, maskAnswer, readVersion, readCount, readMasks, readList, readLists, readRows, Contents, readGraph, contents, graphOf, answerOf, contentsAnswer}
+use Rattle.graph.specs.Held.{heldOf, graphOfHeld, viewOf, graphReading, contentsReading, readingOf, pairList, triangle, listOf}
+use Rattle.graph.specs.Theorems.{SameGraph, Undirected, HeldSaysTheSame, AcceptedIsSound, FilesDiffer}
+use Rattle.graph.proofs.Reader.{Rows, GraphGot, pick-got, check-got, then-got, graph-got, list-got}
 use Rattle.graph.proofs.LearnerGraph.{Symmetric}
 use Rattle.graph.proofs.View.{held-same, valid-same, condensed-same}
 

@@ -8,7 +8,7 @@ use native.Mathlib.Nat.{suc-mul, mul-add, mul-one, mul-le-mul-right}
 use native.Mathlib.Decide.{decLt}
 use native.Mathlib.Omega.{arith}
 use lib.Bits.{bitAnd, bitOr}
-use lib.ListN.{getD, take, length, length-take, List·getD-eq-default}
+use lib.ListN.{getD, take, length-take, List·getD-eq-default}
 use lib.Seq.{slice, getD-drop, getD-take}
 use Rattle.base.specs.Tests.{_∈_, any, all}
 use Rattle.base.specs.Sets.{has, contains, apart}

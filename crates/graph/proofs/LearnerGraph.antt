@@ -6,7 +6,7 @@ use mathlib.Core.List.{List}
 use Prim.Native.Nat.{ℕ, _<_}
 use lib.Bits.{bitAnd}
 use lib.Dec.{T, T-not, not-T}
-use Rattle.base.specs.Tests.{_∈_, any, all, below}
+use Rattle.base.specs.Tests.{_∈_, below}
 use Rattle.base.specs.Sets.{has, contains, apart}
 use Rattle.base.proofs.Tests.{any-in, any-out, all-in, all-out, below-in, below-out, and-l, and-r, and-in, same-test, any-cong}
 use Rattle.base.proofs.Sets.{Contains, contains-law, contains-cong, Apart, apart-law, apart-cong, has-and}
@@ -51,10 +51,6 @@ module _ (G : LearnerGraph) where
   pub quorum-cong : (a : ℕ) (S R : ℕ → Bool) → ((p : ℕ) → p < G .acceptors → S p ≡ R p) → isQuorum G a S ≡ isQuorum G a R
   unfolding isQuorum
   quorum-cong a S R e = any-cong _ _ (G .quorums a) (λ q m. contains-cong (G .acceptors) S R q e)
-
-  pub safe-cong : (a b : ℕ) (S R : ℕ → Bool) → ((p : ℕ) → p < G .acceptors → S p ≡ R p) → isSafe G a b S ≡ isSafe G a b R
-  unfolding isSafe
-  safe-cong a b S R e = any-cong _ _ (G .safes a b) (λ q m. contains-cong (G .acceptors) S R q e)
 
   pub without-cong : (a b : ℕ) (S R : ℕ → Bool) → ((p : ℕ) → p < G .acceptors → S p ≡ R p) → safeWithout G a b S ≡ safeWithout G a b R
   unfolding safeWithout

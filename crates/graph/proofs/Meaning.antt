@@ -1,9 +1,8 @@
 -- What the check of a graph file means: the theorems of specs/Theorems on valid and condensed.
-use mathlib.Core.Path.{_≡_, refl, ap, ap₂, sym, _∙_, subst}
+use mathlib.Core.Path.{subst}
 use mathlib.Core.Bool.{Bool, _||_}
 use mathlib.Core.Logic.{_⊎_, inl, inr}
-use Prim.Native.Nat.{ℕ, _<_, min, max}
-use native.Mathlib.Omega.{arith}
+use Prim.Native.Nat.{ℕ, _<_}
 use lib.Dec.{T}
 use mathlib.Core.List.{List}
 use Rattle.base.specs.Tests.{_∈_, any}
@@ -11,7 +10,7 @@ use Rattle.base.specs.Sets.{has, contains}
 use Rattle.base.proofs.Tests.{or-l, or-r, or-out}
 use Rattle.graph.specs.LearnerGraph.{LearnerGraph, isQuorum, isSafe, valid, condensed}
 use Rattle.graph.specs.Theorems.{Definition13, Definition5, ValidMeans, CondensedMeans, SelfAgreement}
-use Rattle.graph.proofs.LearnerGraph.{Valid, Condensed, valid-law, condensed-law, quorum-law, safe-law}
+use Rattle.graph.proofs.LearnerGraph.{valid-law, condensed-law, quorum-law, safe-law}
 
 -- a listed mask is a quorum, and a safe set, itself
 listed-quorum : (G : LearnerGraph) (a q : ℕ) → q ∈ G .quorums a → T (isQuorum G a (has q))

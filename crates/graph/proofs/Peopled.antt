@@ -3,7 +3,7 @@ use mathlib.Core.Path.{_≡_, refl, sym, subst}
 use mathlib.Core.Logic.{_⊎_, inl, inr}
 use mathlib.Core.Bool.{Bool, true, false, _||_}
 use mathlib.Core.List.{List, [], _∷_, _++_, List·Memᴰ·append-cases, List·Memᴰ·eq-of-singleton, List·Memᴰ·head, List·Memᴰ·tail}
-use Prim.Native.Nat.{ℕ, zero, suc, _+_, _^_, _≤_, _<_}
+use Prim.Native.Nat.{ℕ, zero, suc, _+_, _^_, _<_}
 use native.Mathlib.Omega.{arith}
 use lib.Dec.{T, eqb, ltb, leb}
 use lib.ListN.{length, getD}
@@ -12,16 +12,14 @@ use Rattle.base.specs.Tests.{_∈_, pick, any}
 use Rattle.base.specs.Sets.{has, contains}
 use Rattle.base.specs.Bytes.{be}
 use Rattle.base.proofs.Tests.{eq→eqb}
-use Rattle.base.proofs.Bits.{bit, some-bit}
+use Rattle.base.proofs.Bits.{some-bit}
 use Rattle.base.specs.declared.refusal.Refusal.the-variants.{Length, Order, Mask}
-use Rattle.graph.specs.declared.Answer.{Answer}
 use Rattle.graph.specs.declared.Answer.the-variants.{Accepted, Refused}
 use Rattle.graph.specs.Limits.{maxMasks}
-use Rattle.graph.specs.File.{Got, got, no, last, maskAnswer, readCount, readMasks, readList, readLists, readRows, readGraph, Contents, graphOf, answerOf}
+use Rattle.graph.specs.File.{got, no, last, maskAnswer, readCount, readMasks, readList, readLists, readRows, readGraph, Contents, graphOf, answerOf}
 use Rattle.graph.specs.Held.{viewOf, readingOf}
-use Rattle.graph.specs.Theorems.{SameGraph}
 use Rattle.graph.proofs.Reader.{pick-got, check-got, then-got}
-use Rattle.graph.proofs.Accepted.{FileGot, file-got, Passed, passed, heldSaysTheSame}
+use Rattle.graph.proofs.Accepted.{file-got, heldSaysTheSame}
 
 -- a mask that names an acceptor
 abbrev pub Names : ℕ → ℕ → Type 0

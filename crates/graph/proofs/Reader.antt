@@ -1,13 +1,13 @@
 -- Laws of the reader of graph files.
 use mathlib.Core.Path.{_≡_, refl, ap, ap₂, sym, _∙_, subst}
-use mathlib.Core.Bool.{Bool, true, false, _||_, _&&_}
+use mathlib.Core.Bool.{Bool, true, false, _&&_}
 use mathlib.Core.Logic.{_⊎_, inl, inr}
 use mathlib.Core.List.{List, [], _∷_, _++_, append-nil, append-assoc, List·Memᴰ·append-cases, List·Memᴰ·eq-of-singleton}
 use Prim.Native.Nat.{ℕ, zero, suc, _+_, _-_, _*_, _^_, _≤_, _<_}
 use native.Mathlib.Numerals.{add-one}
-use native.Mathlib.Nat.{add-zero, add-suc}
+use native.Mathlib.Nat.{add-zero}
 use native.Mathlib.Omega.{arith}
-use borrow.Author.Tests.{lt-ltb, le-ltb, ltb-true, ltb-false, leb-true, leb-false, eqb-true, eq-eqb, ne-eqb, le-leb, lt-leb}
+use borrow.Author.Tests.{lt-ltb, le-ltb, ltb-true, ltb-false, leb-true, eq-eqb, ne-eqb, le-leb, lt-leb}
 use lib.Dec.{ltb, leb, eqb}
 use lib.ListN.{length, getD, set, take, drop, length-append}
 use lib.Seq.{slice, take-append-seam, getD-append-seam, paste-suc, take-length, length-take-le, take-at, drop-at}
@@ -22,7 +22,7 @@ use Rattle.graph.specs.declared.file.Field.{Field}
 use Rattle.graph.specs.declared.file.Field.the-variants as Field
 use Rattle.graph.specs.Limits.{maxMasks}
 use Rattle.graph.specs.File.{Got, got, no, andThen, afterCheck, last, maskAnswer, readCount, readMasks, readList, readLists, readRows, Contents, readGraph}
-use Rattle.graph.specs.Held.{Held, hold, holdAll, holdRows, pairList, valueOf, MasksHeld, HeldAfter}
+use Rattle.graph.specs.Held.{Held, hold, holdAll, holdRows, pairList, fieldOf, MasksHeld, HeldAfter}
 
 -- ---- lists
 pub last-snoc : (d : ℕ) (l : List ℕ) (m : ℕ) → last d (l ++ (m ∷ [])) ≡ m
@@ -63,12 +63,12 @@ module _ {A : Type 0} where
   then-got (got x m) f y n e = (x, m, refl, e)
   then-got (no r) f y n e = let z : _≡_ {A = ℕ} 0 1 = cc in absurd (omega arith)
 
-pub value-no : (g : Got ℕ) (r : Refusal) → valueOf g ≡ Field.Refused r → g ≡ no r
+pub value-no : (g : Got ℕ) (r : Refusal) → fieldOf g ≡ Field.Refused r → g ≡ no r
 value-no (got x at) r e = let z : _≡_ {A = ℕ} 0 1 = cc in absurd (omega arith)
 value-no (no q) r e = ap no (cc)
 
 -- a count that was read
-pub count-is : (s : List ℕ) (low high at x : ℕ) → valueOf (readCount s low high at) ≡ Field.Is x
+pub count-is : (s : List ℕ) (low high at x : ℕ) → fieldOf (readCount s low high at) ≡ Field.Is x
     → (at < length s) × (low ≤ x) × (x ≤ high) × (getD s at 0 ≡ x) × (readCount s low high at ≡ got x (at + 1))
 count-is s low high at x e = here (ltb at (length s)) refl (leb low v) refl (leb v high) refl e
   where
@@ -76,7 +76,7 @@ count-is s low high at x e = here (ltb at (length s)) refl (leb low v) refl (leb
     v = getD s at 0
 
     here : (b : Bool) → ltb at (length s) ≡ b → (c : Bool) → leb low v ≡ c → (d : Bool) → leb v high ≡ d
-        → valueOf (pick b (pick (c && d) (got v (at + 1)) (no Range)) (no Length)) ≡ Field.Is x
+        → fieldOf (pick b (pick (c && d) (got v (at + 1)) (no Range)) (no Length)) ≡ Field.Is x
         → (at < length s) × (low ≤ x) × (x ≤ high) × (v ≡ x) × (readCount s low high at ≡ got x (at + 1))
     here false p c q d r e = let z : _≡_ {A = ℕ} 0 1 = cc in absurd (omega arith)
     here true p false q d r e = let z : _≡_ {A = ℕ} 0 1 = cc in absurd (omega arith)
@@ -144,7 +144,7 @@ module _ (s : List ℕ) (n : ℕ) where
   unfolding readList
   list-got low at l next e =
       let (k, m, f, g) = then-got (readCount s low maxMasks at) (λ k at′. readMasks s n k [] at′) l next e in
-      let (i, a, b, v, r) = count-is s low maxMasks at k (ap valueOf f) in
+      let (i, a, b, v, r) = count-is s low maxMasks at k (ap fieldOf f) in
       let w : m ≡ at + 1 = cc in
       let g′ = subst (λ (x : ℕ). readMasks s n k [] x ≡ got l next) w g in
       let (p, q, t) = masks-got k [] (at + 1) l next (omega arith) g′ in

@@ -1,15 +1,15 @@
 -- The graph that is held after a file's lists are put in is the graph of the file.
-use mathlib.Core.Path.{_≡_, refl, ap, ap₂, sym, _∙_, subst}
+use mathlib.Core.Path.{_≡_, refl, ap, sym, _∙_, subst}
 use mathlib.Core.Logic.{_⊎_, inl, inr, _≢_, ⊎-elim}
 use mathlib.Core.List.{List, [], _∷_, _++_, List·Memᴰ·head, List·Memᴰ·tail}
 use Prim.Native.Nat.{ℕ, zero, suc, _+_, _-_, _*_, _≤_, _<_, min, max}
 use native.Mathlib.Decide.{decLt, ℕ-discrete}
 use native.Mathlib.Nat.{add-zero}
 use native.Mathlib.Omega.{arith}
-use lib.ListN.{length, getD, set, take, drop, replicate, length-set, length-append, List·getD-append, length-replicate}
-use lib.Seq.{slice, sets, sets-eq, length-sets, length-slice, length-take-le, getD-set-same, getD-set-other, getD-take, getD-drop, getD-append-add, ext-getD}
+use lib.ListN.{length, getD, set, take, drop, length-set, length-append, List·getD-append}
+use lib.Seq.{slice, sets-eq, length-sets, length-slice, length-take-le, getD-set-same, getD-set-other, getD-take, getD-drop, getD-append-add, ext-getD}
 use mathlib.Core.Bool.{_&&_, _||_}
-use Rattle.base.specs.Tests.{_∈_, any, all, below}
+use Rattle.base.specs.Tests.{any, all, below}
 use Rattle.base.specs.Sets.{has, contains}
 use Rattle.base.proofs.Tests.{all-cong, below-out}
 use Rattle.base.specs.Bytes.{putAt}

@@ -1,11 +1,11 @@
 -- The whole file, step by step: what the steps of `read` answer decides what the file is.
-use mathlib.Core.Path.{_≡_, refl, ap, ap₂, sym, _∙_, subst}
-use mathlib.Core.Bool.{Bool, true, false, _&&_}
+use mathlib.Core.Path.{_≡_, refl, ap, ap₂, sym, _∙_}
+use mathlib.Core.Bool.{Bool, true, false}
 use mathlib.Core.List.{List, []}
 use Prim.Native.Nat.{ℕ, _+_, _≤_, _<_}
 use native.Mathlib.Omega.{arith}
 use borrow.Author.Tests.{eq-eqb, ne-eqb, lt-ltb, le-ltb}
-use lib.Dec.{eqb, ltb}
+use lib.Dec.{eqb}
 use lib.ListN.{length, getD}
 use Rattle.base.specs.Tests.{pick}
 use Rattle.base.specs.Bytes.{be}
@@ -13,14 +13,13 @@ use Rattle.base.specs.declared.refusal.Refusal.{Refusal}
 use Rattle.base.specs.declared.refusal.Refusal.the-variants.{Length, Version, NotValid, NotCondensed}
 use Rattle.graph.specs.declared.Answer.{Answer}
 use Rattle.graph.specs.declared.Answer.the-variants.{Accepted, Refused}
-use Rattle.graph.specs.declared.Reading.{Reading}
 use Rattle.graph.specs.declared.file.Field.{Field}
 use Rattle.graph.specs.declared.file.Field.the-variants as Field
-use Rattle.graph.specs.Limits.{version, maxLearners, maxAcceptors}
+use Rattle.graph.specs.Limits.{maxLearners, maxAcceptors}
 use Rattle.graph.specs.LearnerGraph.{LearnerGraph, valid, condensed}
-use Rattle.graph.specs.File.{Got, got, no, andThen, readVersion, readCount, readLists, readRows, Contents, readGraph, contents, graphOf, graphAnswer, answerOf, contentsAnswer}
-use Rattle.graph.specs.Held.{Held, holdAll, holdRows, nothing, heldOf, heldGraph, graphOfHeld, refusedReading, graphReading, contentsReading, readingOf, valueOf, HeldAfter}
-use Rattle.graph.proofs.Reader.{GraphGot, graph-got, lists-got, rows-got, after-got, after-no, value-no, count-is}
+use Rattle.graph.specs.File.{Got, got, no, andThen, readCount, readLists, readRows, Contents, readGraph, contents, graphOf, graphAnswer, answerOf, contentsAnswer}
+use Rattle.graph.specs.Held.{Held, holdAll, holdRows, nothing, heldOf, heldGraph, graphOfHeld, refusedReading, graphReading, contentsReading, readingOf, fieldOf, HeldAfter}
+use Rattle.graph.proofs.Reader.{graph-got, lists-got, after-got, after-no, value-no, count-is}
 use Rattle.graph.proofs.View.{held-same, valid-same, condensed-same}
 
 -- ---- the lists
@@ -127,19 +126,19 @@ module _ (s : List ℕ) where
       unfolding contents
       head = simp (eq-eqb (length s) (2 + be 2 s 0) h, lt-ltb 2 (length s) l, eq-eqb (getD s 2 0) 1 v)
 
-      pub acceptors-no : (x : Refusal) → valueOf (readCount s 1 maxAcceptors 3) ≡ Field.Refused x → contents s ≡ no x
+      pub acceptors-no : (x : Refusal) → fieldOf (readCount s 1 maxAcceptors 3) ≡ Field.Refused x → contents s ≡ no x
       acceptors-no x e =
           head ∙ ap (λ (g : Got ℕ). andThen g (λ n at′. andThen (readCount s 1 maxLearners at′) (λ k at″. readGraph s n k at″))) (value-no (readCount s 1 maxAcceptors 3) x e)
 
-      module _ (n : ℕ) (en : valueOf (readCount s 1 maxAcceptors 3) ≡ Field.Is n) where
+      module _ (n : ℕ) (en : fieldOf (readCount s 1 maxAcceptors 3) ≡ Field.Is n) where
         behind : contents s ≡ andThen (readCount s 1 maxLearners 4) (λ k at″. readGraph s n k at″)
         behind =
             head ∙ ap (λ (g : Got ℕ). andThen g (λ n at′. andThen (readCount s 1 maxLearners at′) (λ k at″. readGraph s n k at″))) (count-is s 1 maxAcceptors 3 n en .4)
 
-        pub learners-no : (x : Refusal) → valueOf (readCount s 1 maxLearners 4) ≡ Field.Refused x → contents s ≡ no x
+        pub learners-no : (x : Refusal) → fieldOf (readCount s 1 maxLearners 4) ≡ Field.Refused x → contents s ≡ no x
         learners-no x e = behind ∙ ap (λ (g : Got ℕ). andThen g (λ k at″. readGraph s n k at″)) (value-no (readCount s 1 maxLearners 4) x e)
 
-        pub lists-behind : (k : ℕ) → valueOf (readCount s 1 maxLearners 4) ≡ Field.Is k → contents s ≡ readGraph s (getD s 3 0) (getD s 4 0) 5
+        pub lists-behind : (k : ℕ) → fieldOf (readCount s 1 maxLearners 4) ≡ Field.Is k → contents s ≡ readGraph s (getD s 3 0) (getD s 4 0) 5
         lists-behind k e =
             let (i, a, b, p, q) = count-is s 1 maxLearners 4 k e in
             behind ∙ ap (λ (g : Got ℕ). andThen g (λ k at″. readGraph s n k at″)) q

@@ -1,6 +1,6 @@
 -- The graph file of document 01 as a reader over a list of bytes. Each field is read in its turn, so "the fault nearest the front counts";
 -- "bytes ending before a field give 1 ahead of that field's check".
-use mathlib.Core.Bool.{Bool, _||_, _&&_}
+use mathlib.Core.Bool.{_||_, _&&_}
 use mathlib.Core.List.{List, [], _∷_, _++_}
 use Prim.Native.Nat.{ℕ, zero, suc, _+_, _-_, _^_, min, max}
 use lib.Dec.{eqb, ltb, leb}

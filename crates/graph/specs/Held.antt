@@ -8,7 +8,6 @@ use lib.Bits.{bitAnd}
 use lib.Dec.{eqb}
 use mathlib.Core.Bool.{Bool}
 use Rattle.base.specs.Bytes.{putAt}
-use Rattle.base.specs.Tests.{pick, any}
 use Rattle.graph.specs.declared.Answer.{Answer}
 use Rattle.graph.specs.declared.Answer.the-variants.{Accepted, Refused}
 use Rattle.graph.specs.declared.file.Field.{Field}
@@ -104,9 +103,9 @@ readingOf s = contentsReading (contents s)
 
 -- ---- what the steps of `read` answer
 -- what was read
-abbrev pub valueOf : Got ℕ → Field
-valueOf (got x at) = Field.Is x
-valueOf (no r) = Field.Refused r
+abbrev pub fieldOf : Got ℕ → Field
+fieldOf (got x at) = Field.Is x
+fieldOf (no r) = Field.Refused r
 
 -- the masks of a list were put in from `first` on, and the place behind is the answer
 abbrev pub MasksHeld : Got (List ℕ) → Field → ℕ → List ℕ → List ℕ → Type 0

@@ -1,5 +1,5 @@
 -- The numbers of document 01, "The graph file", each named once.
-use Prim.Native.Nat.{ℕ, _+_, _*_, _^_}
+use Prim.Native.Nat.{ℕ}
 
 -- "Version 1."
 abbrev pub version : ℕ

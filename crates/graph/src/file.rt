@@ -11,12 +11,12 @@ use base::refusal::Refusal;
 use base::size;
 ghost use mathlib.Core.Path.{_≡_};
 ghost use mathlib.Core.List.{[]};
-ghost use Prim.Native.Nat.{ℕ, _+_, _-_, _*_, _≤_, _<_};
+ghost use Prim.Native.Nat.{_+_, _-_, _*_, _≤_, _<_};
 ghost use lib.ListN.{length};
 ghost use lib.Seq.{slice};
 ghost use Rattle.base.specs.Bytes.{be};
 ghost use Rattle.graph.specs.File.{last, maskAnswer, readCount, readMasks, readList, readLists, readRows};
-ghost use Rattle.graph.specs.Held.{pairList, holdAll, holdRows, Sized, valueOf, MasksHeld, HeldAfter};
+ghost use Rattle.graph.specs.Held.{pairList, holdAll, holdRows, Sized, fieldOf, MasksHeld, HeldAfter};
 
 // What a field holds, or the place behind it; or why the file is turned down there.
 pub enum Field {
@@ -26,7 +26,7 @@ pub enum Field {
 
 // A byte from low to high.
 pub fn read_count(s: &[u8], at: usize, low: usize, high: usize) -> Field
-    ensures { λ r. ⌜ r ≡ valueOf (readCount (now (s .entry)) low high at) ⌝ }
+    ensures { λ r. ⌜ r ≡ fieldOf (readCount (now (s .entry)) low high at) ⌝ }
 {
     if s.len() <= at {
         return Field::Refused(Refusal::Length);

@@ -1,6 +1,5 @@
 -- What the sample graph files answer, worked out on the definitions.
 use mathlib.Core.Path.{_≡_, refl}
-use Prim.Native.Nat.{ℕ}
 use lib.ListN.{length}
 use Rattle.base.specs.Tests.{any, all, below}
 use Rattle.base.specs.Sets.{has, contains}

@@ -1,9 +1,8 @@
 // Sample graph files, each with the answer that document 01 gives it. Prints how many failed.
 use base::put_all;
 use base::put16;
-ghost use mathlib.Core.Path.{_≡_};
 ghost use lib.ListN.{length};
-ghost use Prim.Native.Nat.{ℕ, _+_, _*_, _≤_, _<_};
+ghost use Prim.Native.Nat.{_+_, _*_, _≤_, _<_};
 
 // 0 where the file has this answer, and 1 otherwise.
 fn failed(file: &[u8], answer: u32) -> u64

@@ -2,15 +2,17 @@
 use mathlib.Core.Path.{_≡_, refl, ap, ap₂, sym, _∙_}
 use mathlib.Core.Bool.{Bool, true, false}
 use mathlib.Core.List.{List, [], _∷_, _++_}
-use Prim.Native.Nat.{ℕ, zero, suc, _+_, _*_, _-_, _<_}
+use Prim.Native.Nat.{ℕ, zero, suc, _+_, _*_, _-_, _≤_, _<_}
 use native.Mathlib.Nat.{add-assoc, add-zero}
 use native.Mathlib.Omega.{arith}
-use lib.Dec.{eqb, ltb}
-use lib.ListN.{length, take, drop}
+use lib.Dec.{eqb, ltb, lt→ltb, ltb→lt}
+use lib.ListN.{length, getD, take, drop}
 use lib.Seq.{drop-drop, drop-at}
 use borrow.Author.Tests.{eqb-true, eqb-false, eq-eqb, ne-eqb, lt-ltb, ltb-true, ltb-false}
 use Rattle.base.specs.Tests.{pick}
-use Rattle.base.specs.Bytes.{part}
+use Rattle.base.specs.Bytes.{be, part, Octets}
+use Rattle.base.proofs.Bytes.{part-suc}
+use Rattle.base.proofs.Tests.{same-test}
 use Rattle.message.specs.Order.{before, ascending}
 
 -- ids behind k bytes that stand in front
@@ -107,6 +109,52 @@ before-trans (x ∷ a) (y ∷ b) (z ∷ c) p q = step (eqb x y) (eqb y z) refl r
         let v = ltb-true x y p in
         let w = ltb-true y z q in
         simp (ne-eqb x z (λ k. omega arith), lt-ltb x z (omega arith))
+
+-- one byte of each list compared, and then what follows
+before-byte : (m : ℕ) (s : List ℕ) (a b : ℕ) → a < length s → b < length s
+    → before (part (suc m) s a) (part (suc m) s b) ≡ pick (eqb (getD s a 0) (getD s b 0)) (before (part m s (suc a)) (part m s (suc b))) (ltb (getD s a 0) (getD s b 0))
+unfolding before
+before-byte m s a b ha hb = ap₂ before (part-suc m s a ha) (part-suc m s b hb)
+
+-- numbers compare like what stands above their last bytes and then these
+last-byte : (p q x y : ℕ) (r : Bool) → x < 256 → y < 256 → pick (eqb p q) (pick (eqb x y) r (ltb x y)) (ltb p q) ≡ pick (eqb (p * 256 + x) (q * 256 + y)) r (ltb (p * 256 + x) (q * 256 + y))
+last-byte p q x y r hx hy = go (eqb p q) (eqb x y) refl refl
+  where
+    same : (c d : ℕ) → (c < d → p * 256 + x < q * 256 + y) → (p * 256 + x < q * 256 + y → c < d) → ltb c d ≡ ltb (p * 256 + x) (q * 256 + y)
+    same c d f g = same-test (ltb c d) (ltb (p * 256 + x) (q * 256 + y)) (λ t. lt→ltb (p * 256 + x) (q * 256 + y) (f (ltb→lt c d t))) (λ t. lt→ltb c d (g (ltb→lt (p * 256 + x) (q * 256 + y) t)))
+
+    go : (t u : Bool) → eqb p q ≡ t → eqb x y ≡ u → pick t (pick u r (ltb x y)) (ltb p q) ≡ pick (eqb (p * 256 + x) (q * 256 + y)) r (ltb (p * 256 + x) (q * 256 + y))
+    go true true e f =
+        let v = eqb-true p q e in
+        let w = eqb-true x y f in
+        simp (eq-eqb (p * 256 + x) (q * 256 + y) (omega arith))
+    go true false e f =
+        let v = eqb-true p q e in
+        let w = eqb-false x y f in
+        simp (ne-eqb (p * 256 + x) (q * 256 + y) (λ k. w (omega arith))) (same x y (λ h. omega arith) (λ h. omega arith))
+    go false u e f =
+        let v = eqb-false p q e in
+        simp (ne-eqb (p * 256 + x) (q * 256 + y) (λ k. v (omega arith))) (same p q (λ h. omega arith) (λ h. omega arith))
+
+-- n bytes of each list compared at once, as big-endian numbers, and then what follows
+pub before-number : (n m : ℕ) (s : List ℕ) (a b : ℕ) → Octets s → a + n + m ≤ length s → b + n + m ≤ length s
+    → before (part (n + m) s a) (part (n + m) s b) ≡ pick (eqb (be n s a) (be n s b)) (before (part m s (a + n)) (part m s (b + n))) (ltb (be n s a) (be n s b))
+unfolding be
+before-number zero m s a b o ha hb =
+    let k : 0 + m ≡ m = omega arith in
+    ap (λ (i : ℕ). before (part i s a) (part i s b)) k ∙ ap₂ (λ (x y : ℕ). before (part m s x) (part m s y)) (sym (add-zero a)) (sym (add-zero b))
+before-number (suc n) m s a b o ha hb =
+    let k : suc n + m ≡ n + suc m = omega arith in
+    let na : suc (a + n) ≡ a + suc n = omega arith in
+    let nb : suc (b + n) ≡ b + suc n = omega arith in
+    let x = getD s (a + n) 0 in
+    let y = getD s (b + n) 0 in
+    let r = before (part m s (a + suc n)) (part m s (b + suc n)) in
+    let e : before (part (suc m) s (a + n)) (part (suc m) s (b + n)) ≡ pick (eqb x y) r (ltb x y) =
+    before-byte m s (a + n) (b + n) (omega arith) (omega arith) ∙ ap₂ (λ (i j : ℕ). pick (eqb x y) (before (part m s i) (part m s j)) (ltb x y)) na nb in
+    ap (λ (i : ℕ). before (part i s a) (part i s b)) k ∙ before-number n (suc m) s a b o (omega arith) (omega arith)
+    ∙ ap (λ (z : Bool). pick (eqb (be n s a) (be n s b)) z (ltb (be n s a) (be n s b))) e
+    ∙ last-byte (be n s a) (be n s b) x y r (o (a + n)) (o (b + n))
 
 -- of ids that ascend, an earlier one comes before each later one, k + 1 places on
 pub ascending-later : (n : ℕ) (s : List ℕ) (at i k : ℕ) → ascending n s at ≡ true → i + k < n → before (part 32 s (at + 32 * i)) (part 32 s (at + 32 * (i + k) + 32)) ≡ true

@@ -7,7 +7,7 @@ use Prim.Native.Nat.{ℕ, _+_, _*_, _-_, _≤_, _<_}
 use native.Mathlib.Omega.{arith}
 use lib.Dec.{eqb, ltb, leb}
 use lib.ListN.{length, getD}
-use borrow.Author.Tests.{lt-ltb, le-leb, eq-eqb, ne-eqb, ltb-true, leb-true, eqb-true, eqb-false}
+use borrow.Author.Tests.{lt-ltb, le-ltb, le-leb, eq-eqb, ltb-true, leb-true, eqb-true, eqb-false}
 use Rattle.base.specs.Tests.{pick}
 use Rattle.base.specs.Bytes.{be}
 use Rattle.base.specs.declared.refusal.Refusal.{Refusal}
@@ -19,8 +19,8 @@ use Rattle.message.specs.declared.Reading.the-variants.{OfProposer, OfAc
 use Rattle.message.specs.declared.Place.the-variants.{At, NoPlace}
 use Rattle.message.specs.Layout.{marker, countAt, acceptorLen, referencesAt}
 use Rattle.message.specs.Order.{ascending}
-use Rattle.message.specs.Reader.{unless, proposalIn, acceptorIn, readProposal, readCounted, readMarked, readAcceptor, readKind, reading, referenceOf, referenceIn}
-use Rattle.message.specs.Outcomes.{Versioned, OfKind, Marked, Counted, IsProposal, IsAcceptor}
+use Rattle.message.specs.Reader.{unless, proposalIn, acceptorIn, readProposal, readCounted, readMarked, readAcceptor, readKind, reading, nthOf, referenceOf, referenceIn}
+use Rattle.message.specs.Outcomes.{OfKind, Marked, Counted, IsProposal, IsAcceptor}
 
 -- ---- what is left
 
@@ -148,6 +148,28 @@ of-acceptor s m e = go (read-whole s (OfAcceptor m) tt e)
     go (inr (b, n, h, q)) =
         let w : acceptorIn s b n ≡ m = cc in
         (subst (λ (x : AcceptorMessage). IsAcceptor (x .previous) (x .count) s) w h, subst (λ (x : AcceptorMessage). x ≡ acceptorIn s (x .previous) (x .count)) w refl)
+
+-- the ids that end an acceptor message are its references
+pub nth-of-acceptor : (s : List ℕ) (m : AcceptorMessage) (n : ℕ) → reading s ≡ OfAcceptor m → nthOf s (m .count) n ≡ referenceOf (OfAcceptor m) n
+nth-of-acceptor s m n e =
+    let l = long in
+    let p : nthOf s (m .count) n ≡ pick (ltb n (m .count)) (At (length s - 32 * (m .count - n))) (NoPlace Argument) = simp (le-leb (32 * m .count) (length s) (omega arith)) in
+    p ∙ go (ltb n (m .count)) refl
+  where
+    long : length s ≡ referencesAt (m .previous) + 32 * m .count
+    long = of-acceptor s m e .0 .long
+
+    go : (t : Bool) → ltb n (m .count) ≡ t → pick t (At (length s - 32 * (m .count - n))) (NoPlace Argument) ≡ pick t (At (referencesAt (m .previous) + 32 * n)) (NoPlace Argument)
+    go true q =
+        let h = ltb-true n (m .count) q in
+        let l = long in
+        let k : length s - 32 * (m .count - n) ≡ referencesAt (m .previous) + 32 * n = omega arith in
+        ap At k
+    go false q = refl
+
+-- where there are none, there is no n-th
+pub nth-of-none : (s : List ℕ) (n : ℕ) → nthOf s 0 n ≡ NoPlace Argument
+nth-of-none s n = simp (le-leb 0 (length s) (omega arith), le-ltb n 0 (omega arith))
 
 -- a reference's place is inside the message
 pub reference-within : (s : List ℕ) (n at : ℕ) → referenceIn s n ≡ At at → at + 32 ≤ length s

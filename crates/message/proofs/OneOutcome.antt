@@ -1,8 +1,8 @@
 -- Exactly one outcome of reading holds.
-use mathlib.Core.Path.{_≡_, refl, ap, sym, subst, _∙_}
+use mathlib.Core.Path.{_≡_, refl, ap, sym, _∙_}
 use mathlib.Core.Bool.{Bool, true, false}
 use mathlib.Core.List.{List}
-use Prim.Native.Nat.{ℕ, _+_, _-_, _≤_, _<_}
+use Prim.Native.Nat.{ℕ, _+_, _-_, _<_}
 use native.Mathlib.Omega.{arith}
 use lib.Dec.{eqb, ltb, leb}
 use lib.ListN.{length, getD}
@@ -15,7 +15,7 @@ use Rattle.message.specs.declared.Reading.the-variants.{OfProposer, OfAc
 use Rattle.message.specs.Layout.{countAt, acceptorLen, referencesAt}
 use Rattle.message.specs.Order.{ascending}
 use Rattle.message.specs.Reader.{unless, proposalIn, acceptorIn, reading, readKind, readProposal, readAcceptor, readMarked, readCounted}
-use Rattle.message.specs.Outcomes.{Whole, Versioned, OfKind, Marked, Counted, IsProposal, IsAcceptor, Outcome, wrong-length, no-version, other-version, no-kind, other-kind, wrong-proposal, proposal, no-marker, other-marker, no-count, no-references, many-references, wrong-acceptor, disordered, acceptor}
+use Rattle.message.specs.Outcomes.{Whole, Versioned, OfKind, Marked, Counted, Outcome, wrong-length, no-version, other-version, no-kind, other-kind, wrong-proposal, proposal, no-marker, other-marker, no-count, no-references, many-references, wrong-acceptor, disordered, acceptor}
 use Rattle.message.specs.Demands.{ExactlyOneOutcome}
 use Rattle.message.proofs.Checks.{to-kind, to-marker, to-acceptor, to-proposal, marker-tested, marker-test}
 

@@ -3,26 +3,23 @@ use mathlib.Core.Logic.{_⊎_, inl, inr}
 use mathlib.Core.Path.{_≡_, refl, ap, ap₂, sym, subst, _∙_}
 use mathlib.Core.Bool.{Bool, true, false}
 use mathlib.Core.List.{List, [], _∷_, _++_, append-assoc, append-nil}
-use Prim.Native.Nat.{ℕ, _+_, _*_, _/_, _%_, _-_, _^_, _≤_, _<_}
+use Prim.Native.Nat.{ℕ, _+_, _*_, _-_, _≤_, _<_}
 use native.Mathlib.Omega.{arith}
 use lib.Dec.{eqb}
-use lib.ListN.{length, getD, take, drop, length-append, take-append-drop}
+use lib.ListN.{length, getD, take, length-append}
 use lib.Seq.{take-at, drop-at, getD-at, take-all, take-add}
-use borrow.Author.Tests.{eq-eqb, ne-eqb, lt-ltb}
+use borrow.Author.Tests.{eq-eqb, lt-ltb}
 use Rattle.base.specs.Tests.{pick}
 use Rattle.base.specs.Bytes.{be, bytes, part, Octets}
-use Rattle.base.proofs.Bytes.{bytes-length, be-at, be-bytes, bytes-be, part-add, part-suc, part-length}
-use Rattle.message.specs.declared.Proposal.{Proposal}
-use Rattle.message.specs.declared.AcceptorMessage.{AcceptorMessage}
-use Rattle.message.specs.declared.Reading.{Reading}
+use Rattle.base.proofs.Bytes.{be-at, be-bytes, bytes-be, part-suc, part-length}
 use Rattle.message.specs.declared.Reading.the-variants.{OfProposer, OfAcceptor}
 use Rattle.message.specs.Layout.{marker, countAt, referencesAt, acceptorLen}
-use Rattle.message.specs.Ballots.{writtenRound}
 use Rattle.message.specs.Order.{ascending}
-use Rattle.message.specs.Reader.{proposalIn, acceptorIn, reading, readKind, readProposal, readAcceptor, readMarked, readCounted, previousIn}
-use Rattle.message.specs.Outcomes.{Versioned, OfKind, IsProposal, IsAcceptor}
+use Rattle.message.specs.Reader.{proposalIn, readKind, readProposal, readAcceptor, readMarked, readCounted, previousIn}
+use Rattle.message.specs.Outcomes.{OfKind, IsAcceptor}
 use Rattle.message.specs.Writer.{headBytes, proposalBytes, hasPrevious, acceptorBytes}
-use Rattle.message.specs.Demands.{ProposalReadsBack, BallotReadsBack, AcceptorFields, AcceptorBack, acceptorOf, AcceptorReadsBack, ProposalBytesOnly, AcceptorBytesOnly, ProposalLength, AcceptorLength, referencesIn}
+use Rattle.base.specs.Ballots.{valueOf}
+use Rattle.message.specs.Demands.{ProposalReadsBack, BallotReadsBack, AcceptorReadsBack, ProposalBytesOnly, AcceptorBytesOnly, ProposalLength, AcceptorLength, referencesIn}
 use Rattle.message.proofs.Checks.{to-kind, to-proposal, to-marker, to-acceptor, of-proposer, of-acceptor, marker-test}
 use Rattle.message.proofs.Encoding.{head-length, proposal-length, previous-span, acceptor-length}
 use Rattle.message.proofs.Ascent.{ascending-behind}
@@ -58,6 +55,7 @@ proposal-reads-back p h b x =
     ∙ (λ i. OfProposer (record { house = f .house-is i; bay = f .bay-is i; proposer = f .signer-is i; ballot = y i }))
 
 pub ballot-reads-back : BallotReadsBack
+unfolding valueOf
 ballot-reads-back house bay proposer round value h = (omega arith, omega arith)
 
 pub proposal-length-read : ProposalLength

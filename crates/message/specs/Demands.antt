@@ -6,16 +6,16 @@ use mathlib.Core.List.{List}
 use Prim.Native.Nat.{ℕ, _+_, _*_, _-_, _^_, _≤_, _<_}
 use lib.ListN.{length}
 use Rattle.base.specs.Bytes.{part, Octets}
+use Rattle.base.specs.Ballots.{roundOf, valueOf}
 use Rattle.message.specs.declared.Proposal.{Proposal}
 use Rattle.message.specs.declared.AcceptorMessage.{AcceptorMessage}
 use Rattle.message.specs.declared.Reading.{Reading}
 use Rattle.message.specs.declared.Reading.the-variants.{OfProposer, OfAcceptor}
 use Rattle.message.specs.Layout.{idLen, mostReferences, mostBytes, referencesAt}
-use Rattle.message.specs.Ballots.{ballotOf, roundOf, valueOf, writtenRound}
 use Rattle.message.specs.Order.{ascending}
 use Rattle.message.specs.Reader.{reading, previousIn}
 use Rattle.message.specs.Outcomes.{Outcome}
-use Rattle.message.specs.Writer.{proposalBytes, proposalOf, hasPrevious, acceptorBytes}
+use Rattle.message.specs.Writer.{proposalBytes, proposalOf, hasPrevious, acceptorBytes, writtenRound}
 
 -- the ids of n references, one behind the other
 abbrev pub referencesIn : List ℕ → Bool → ℕ → List ℕ

@@ -1,7 +1,5 @@
 -- Places and lengths of the fields
 pub mod Layout
--- Ballots: a round number and a value
-pub mod Ballots
 -- Ids that ascend as bytes
 pub mod Order
 -- What bytes say: the fields, or why they are turned down

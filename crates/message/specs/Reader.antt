@@ -66,6 +66,10 @@ reading s =
 abbrev pub previousIn : List ℕ → Bool → List ℕ
 previousIn s previous = part (pick previous idLen 0) s previousAt
 
+-- where the n-th of the count ids stands that end the bytes s, from 0 on; past the last there is none
+abbrev pub nthOf : List ℕ → ℕ → ℕ → Place
+nthOf s count n = pick (leb (idLen * count) (length s)) (pick (ltb n count) (At (length s - idLen * (count - n))) (NoPlace Argument)) (NoPlace Argument)
+
 -- where the n-th reference of a message that was read stands, from 0 on; a proposal has none
 abbrev pub referenceOf : Reading → ℕ → Place
 referenceOf (Refused r) n = NoPlace r

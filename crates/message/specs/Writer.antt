@@ -8,7 +8,7 @@ use lib.Dec.{eqb, ltb}
 use lib.ListN.{length, getD, drop}
 use Rattle.base.specs.Tests.{pick}
 use Rattle.base.specs.Bytes.{bytes, part}
-use Rattle.base.specs.declared.refusal.Refusal.{Refusal}
+use Rattle.base.specs.Ballots.{ballotOf}
 use Rattle.base.specs.declared.refusal.Refusal.the-variants.{Argument}
 use Rattle.message.specs.declared.Proposal.{Proposal}
 use Rattle.message.specs.declared.Place.{Place}
@@ -16,7 +16,6 @@ use Rattle.message.specs.declared.Place.the-variants.{At, NoPlace}
 use Rattle.message.specs.declared.Written.{Written}
 use Rattle.message.specs.declared.Written.the-variants.{Bytes, NotWritten}
 use Rattle.message.specs.Layout.{outerLen, version, proposalKind, acceptorKind, proposalLen, marker, idLen, mostReferences, acceptorLen}
-use Rattle.message.specs.Ballots.{ballotOf, writtenRound}
 use Rattle.message.specs.Reader.{referenceIn}
 
 -- what every message of len bytes begins with
@@ -25,6 +24,10 @@ headBytes len kind house bay signer = bytes 2 (len - outerLen) ++ (version ∷ k
 
 abbrev pub proposalBytes : Proposal → List ℕ
 proposalBytes p = headBytes proposalLen proposalKind (p .house) (p .bay) (p .proposer) ++ bytes 8 (p .ballot)
+
+-- "Round number 0 stands for 1 and is written as 1."
+abbrev pub writtenRound : ℕ → ℕ
+writtenRound round = pick (eqb round 0) 1 round
 
 -- the proposal that the writer's arguments mean
 abbrev pub proposalOf : ℕ → ℕ → ℕ → ℕ → ℕ → Proposal

@@ -1,6 +1,7 @@
 // Ballots: the upper 32 bits are the round number and the lower 32 bits the value.
 ghost use mathlib.Core.Path.{_≡_};
-ghost use Rattle.message.specs.Ballots.{ballotOf, roundOf, valueOf, writtenRound};
+ghost use Rattle.base.specs.Ballots.{ballotOf, roundOf, valueOf};
+ghost use Rattle.message.specs.Writer.{writtenRound};
 
 // The round number that 0 stands for in the proposal writer.
 const FIRST_ROUND: u32 = 1;

@@ -1,7 +1,7 @@
 // Where the fields of a message stand. A new field or another version is a change here.
 ghost use mathlib.Core.Path.{_≡_};
 ghost use mathlib.Core.Bool.{true};
-ghost use Prim.Native.Nat.{ℕ, _≤_};
+ghost use Prim.Native.Nat.{_≤_};
 ghost use Rattle.message.specs.Layout.{marker, countAt, referencesAt};
 
 pub const OUTER_LEN: usize = 2;

@@ -6,6 +6,7 @@ pub mod ballot;
 pub mod layout;
 pub mod order;
 mod reader;
+pub mod references;
 mod writer;
 
 use ballot::ballot_of;
@@ -28,15 +29,14 @@ use layout::VERSION;
 use layout::VERSION_AT;
 use layout::count_at;
 use layout::marker_of;
-use layout::references_at;
 use reader::read_acceptor;
 use reader::read_proposal;
+use references::nth_of;
 use writer::put_references;
 use writer::write_head;
 ghost use mathlib.Core.Path.{_≡_};
-ghost use mathlib.Core.Logic.{_⊎_};
-ghost use Prim.Native.Nat.{ℕ, _+_, _*_, _≤_, _<_};
-ghost use lib.ListN.{length, getD};
+ghost use Prim.Native.Nat.{_+_, _*_, _<_};
+ghost use lib.ListN.{length};
 ghost use Rattle.message.specs.Reader.{reading, referenceIn};
 ghost use Rattle.message.specs.Writer.{Writable, acceptorBytes, fronted, gathered, proposalBytes, proposalOf, referenceAnswer, referenceTo, writtenTo, wrote};
 
@@ -111,15 +111,8 @@ pub fn reference(bytes: &[u8], n: usize) -> Place
 {
     match read(bytes) {
         Reading::Refused(r) => Place::NoPlace(r),
-        Reading::OfProposer(_) => Place::NoPlace(Refusal::Argument),
-        Reading::OfAcceptor(m) => {
-            // n is compared with the count before it is multiplied.
-            if n < m.count {
-                Place::At(references_at(m.previous) + ID_LEN * n)
-            } else {
-                Place::NoPlace(Refusal::Argument)
-            }
-        }
+        Reading::OfProposer(_) => nth_of(bytes, 0, n),
+        Reading::OfAcceptor(m) => nth_of(bytes, m.count, n),
     }
 }
 

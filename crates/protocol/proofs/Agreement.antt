@@ -9,9 +9,10 @@ use lib.Dec.{T, ltb, ltb→lt, nltb→le}
 use Rattle.base.specs.Tests.{_∈_}
 use Rattle.base.specs.Sets.{has}
 use Rattle.base.proofs.Tests.{dec-T}
+use Rattle.base.specs.Ballots.{valueOf}
 use Rattle.graph.specs.LearnerGraph.{LearnerGraph, isSafe}
 use Rattle.graph.proofs.LearnerGraph.{safe-law, valid-law, condensed-law}
-use Rattle.protocol.specs.Message.{Message, is1b, tran, ballot, valueOf, value}
+use Rattle.protocol.specs.Message.{Message, is1b, tran, ballot, value}
 use Rattle.protocol.specs.Learners.{con, lrns}
 use Rattle.protocol.specs.Report.{decides, decided, split, report}
 use Rattle.protocol.specs.Theorems.{SoundGraph, Lawful, Honest, Entangled, Within, Agreement, NoSplit, ReportsAgree}

@@ -8,7 +8,8 @@ use native.Mathlib.Omega.{arith}
 use lib.Dec.{T, leb, leb→le, nleb→lt}
 use Rattle.base.specs.Tests.{_∈_}
 use Rattle.base.proofs.Tests.{dec-T}
-use Rattle.protocol.specs.Message.{Message, proposal, acceptor, Messages, nil, cons, isProposal, proposed, is1b, tran, trans, largest, ballot, valueOf, value}
+use Rattle.base.specs.Ballots.{valueOf}
+use Rattle.protocol.specs.Message.{Message, proposal, acceptor, Messages, nil, cons, isProposal, proposed, is1b, tran, trans, largest, ballot, value}
 use Rattle.protocol.specs.Learners.{height, heights}
 use Rattle.protocol.proofs.Message.{1b-law, beneath, beneath-tran, reference-beneath, tran-closed}
 

@@ -9,8 +9,9 @@ use native.Mathlib.Omega.{arith}
 use lib.Dec.{T, eqb, ltb, eqb→eq, ltb→lt, lt→ltb, nltb→le, not-T, T-not}
 use Rattle.base.specs.Tests.{_∈_, pick, any, below}
 use Rattle.base.proofs.Tests.{and-l, and-r, and-in, or-l, or-r, or-out, dec-T, neqb→ne, ne→neqb, same-test, any-in, any-out}
+use Rattle.base.specs.Ballots.{valueOf}
 use Rattle.graph.specs.LearnerGraph.{LearnerGraph}
-use Rattle.protocol.specs.Message.{valueOf, value}
+use Rattle.protocol.specs.Message.{value}
 use Rattle.protocol.specs.Table.{Table, Ordered, reach}
 use Rattle.protocol.specs.Places.{is1bAt, is2aAt, ballotAt, lrnsAt, buriedAt}
 use Rattle.protocol.proofs.PlacesLearners.{buried-at}

@@ -10,9 +10,10 @@ use lib.Dec.{T}
 use Rattle.base.specs.Tests.{_∈_, any, all, filter, below}
 use Rattle.base.specs.Sets.{has, contains, apart}
 use Rattle.base.proofs.Tests.{and-l, and-r}
+use Rattle.base.specs.Ballots.{valueOf}
 use Rattle.graph.specs.LearnerGraph.{LearnerGraph, isQuorum, isSafe, safeWithout, common, validAt, valid, condensedAt, condensed}
 use Rattle.protocol.specs.Ids.{sameId, samePrevious}
-use Rattle.protocol.specs.Message.{Message, listed, idOf, signer, previous, references, isProposal, proposed, is1b, is2a, signers, tran, largest, ballot, valueOf, value, forks, caughtIn, caught}
+use Rattle.protocol.specs.Message.{Message, listed, idOf, signer, previous, references, isProposal, proposed, is1b, is2a, signers, tran, largest, ballot, value, forks, caughtIn, caught}
 use Rattle.protocol.specs.Learners.{con, overrides, buriesBy, buriedBy, ownVote, standsBy, con2aBy, con2asBy, sameValue, freshBy, backsBy, backersBy, lrnsBy, height, lrnsIn, lrns}
 use Rattle.protocol.specs.WellFormed.{isPrevious, linked, chained, alone, formed1b, formed2a}
 use Rattle.protocol.specs.Report.{votes, decides, deciding, least, others, decided, split, against, verdict, report}

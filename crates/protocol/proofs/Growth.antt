@@ -11,7 +11,7 @@ use lib.Dec.{T, eqb, ltb, eqb→eq, ltb→lt, nltb→le}
 use Rattle.base.specs.Tests.{_∈_, any}
 use Rattle.base.proofs.Tests.{any-cong, dec-T, neqb→ne}
 use Rattle.protocol.specs.Table.{Held, offers, says, Table, at, tabulate, heldId, places, Ordered, nodeBy, treeIn, tree, messages, reachBy, reachIn, reach, joint, idsAt, contentOf, content}
-use Rattle.protocol.proofs.Table.{at-past, nothing-past, node-cong, tree-is, reach-is}
+use Rattle.protocol.proofs.Table.{at-past, nothing-past, node-cong, tree-is}
 
 pub at-append : (t u : Table) (i : ℕ) → i < length t → at (t ++ u) i ≡ at t i
 unfolding at
@@ -85,12 +85,6 @@ module _ (t : Table) (r : Held) (ord : Ordered t) (h : (j : ℕ) → j ∈ place
       tree-is (t ++ r ∷ []) (ordered-snoc t r ord h) (length t)
       ∙ ap (nodeBy (tree (t ++ r ∷ []))) (at-end t r)
       ∙ node-cong (tree (t ++ r ∷ [])) (tree t) r (λ j m. tree-append t (r ∷ []) ord j (h j m))
-
-  pub reach-end : (j : ℕ) → reach (t ++ r ∷ []) (length t) j ≡ (eqb (length t) j || any (λ k. reach t k j) (places r))
-  reach-end j =
-      reach-is (t ++ r ∷ []) (ordered-snoc t r ord h) (length t) j
-      ∙ (λ e. eqb (length t) j || any (λ k. reach (t ++ r ∷ []) k j) (places (at-end t r e)))
-      ∙ (λ e. eqb (length t) j || any-cong (λ k. reach (t ++ r ∷ []) k j) (λ k. reach t k j) (places r) (λ k m. reach-append t (r ∷ []) ord k j (h k m)) e)
 
 pub ordered-nil : Ordered []
 ordered-nil i j m = absurd (nothing-past (subst (λ (q : Held). j ∈ places q) (at-past [] i (omega arith)) m))

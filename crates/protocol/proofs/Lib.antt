@@ -26,7 +26,7 @@ pub mod Validity
 pub mod Table
 -- A table that grows keeps its messages
 pub mod Growth
--- Accepted places as a table grows
+-- What accepted places lead to
 pub mod Accepted
 -- Equal ids give equal messages, and agreement between two tables
 pub mod Tables

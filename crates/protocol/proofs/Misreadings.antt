@@ -7,9 +7,10 @@ use Prim.Native.Nat.{_+_, _^_}
 use lib.Dec.{T, eqb}
 use Rattle.base.specs.Tests.{any, all, filter, below}
 use Rattle.base.specs.Sets.{has, contains, apart}
+use Rattle.base.specs.Ballots.{valueOf}
 use Rattle.graph.specs.LearnerGraph.{LearnerGraph, isQuorum, safeWithout}
 use Rattle.protocol.specs.Ids.{sameId, samePrevious}
-use Rattle.protocol.specs.Message.{listed, idOf, signer, previous, references, isProposal, proposed, is1b, is2a, signers, tran, largest, ballot, valueOf, value, forks, caughtIn, caught}
+use Rattle.protocol.specs.Message.{listed, idOf, signer, previous, references, isProposal, proposed, is1b, is2a, signers, tran, largest, ballot, value, forks, caughtIn, caught}
 use Rattle.protocol.specs.Learners.{con, overrides, buriesBy, buriedBy, ownVote, standsBy, con2aBy, con2asBy, sameValue, freshBy, backsBy, backersBy, lrnsBy, height, lrnsIn, lrns, buried, fresh}
 use Rattle.protocol.specs.WellFormed.{alone, formed1b}
 use Rattle.protocol.specs.Report.{least, others, split, against, verdict}

@@ -8,8 +8,9 @@ use native.Mathlib.Omega.{arith}
 use lib.Dec.{T, eqb, leb, eqb→eq, leb→le, nleb→lt}
 use Rattle.base.specs.Tests.{_∈_, filter}
 use Rattle.base.proofs.Tests.{dec-T, neqb→ne, ne→neqb, filter-in, filter-out, map-in, map-out}
+use Rattle.base.specs.Ballots.{valueOf}
 use Rattle.graph.specs.LearnerGraph.{LearnerGraph}
-use Rattle.protocol.specs.Message.{Message, is2a, ballot, valueOf}
+use Rattle.protocol.specs.Message.{Message, is2a, ballot}
 use Rattle.protocol.specs.Report.{decides, deciding, least, others, Verdict, undecided, decided, split, against, verdict, report}
 use Rattle.protocol.specs.Theorems.{Peopled}
 use Rattle.protocol.proofs.Decides.{decides-law}

@@ -3,8 +3,9 @@ use mathlib.Core.Path.{_≡_, ap, _∙_}
 use Prim.Native.Nat.{ℕ}
 use lib.Dec.{T}
 use Rattle.base.specs.Tests.{_∈_}
+use Rattle.base.specs.Ballots.{valueOf}
 use Rattle.graph.specs.LearnerGraph.{LearnerGraph}
-use Rattle.protocol.specs.Message.{Message, isProposal, tran, ballot, valueOf, value}
+use Rattle.protocol.specs.Message.{Message, isProposal, tran, ballot, value}
 use Rattle.protocol.specs.Theorems.{Peopled, Validity}
 use Rattle.protocol.proofs.Message.{tran-closed}
 use Rattle.protocol.proofs.Ballot.{Proposes, ballot-reached, ballot-proposal, proposal-in-1b}

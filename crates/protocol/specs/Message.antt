@@ -3,8 +3,9 @@
 use mathlib.Core.Bool.{Bool, true, false, not, _&&_}
 use mathlib.Core.Option.{Option, none}
 use mathlib.Core.List.{List, [], _∷_, _++_}
-use Prim.Native.Nat.{ℕ, _%_, _^_, max}
+use Prim.Native.Nat.{ℕ, max}
 use lib.Dec.{eqb}
+use Rattle.base.specs.Ballots.{valueOf}
 use Rattle.base.specs.Tests.{any, filter}
 use Rattle.protocol.specs.Ids.{Id, sameId, samePrevious}
 
@@ -82,9 +83,6 @@ unfoldable pub ballot : Message → ℕ
 ballot m = largest (tran m)
 
 -- ---- definition 10: "V(m): its lower 32 bits"
-unfoldable pub valueOf : ℕ → ℕ
-valueOf x = x % 2 ^ 32
-
 unfoldable pub value : Message → ℕ
 value m = valueOf (ballot m)
 

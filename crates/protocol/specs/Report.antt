@@ -5,8 +5,9 @@ use mathlib.Core.List.{List, [], _∷_, map}
 use Prim.Native.Nat.{ℕ, min}
 use lib.Dec.{eqb}
 use Rattle.base.specs.Tests.{all, filter}
+use Rattle.base.specs.Ballots.{valueOf}
 use Rattle.graph.specs.LearnerGraph.{LearnerGraph, isQuorum}
-use Rattle.protocol.specs.Message.{Message, is2a, signers, ballot, valueOf}
+use Rattle.protocol.specs.Message.{Message, is2a, signers, ballot}
 use Rattle.protocol.specs.Learners.{lrns}
 
 -- ---- "A ballot decides for a if the signers of known 2as with that ballot and a in lrns are a quorum of a."

@@ -9,8 +9,9 @@ use lib.ListN.{length}
 use lib.Dec.{T}
 use Rattle.base.specs.Tests.{_∈_}
 use Rattle.base.specs.Sets.{has}
+use Rattle.base.specs.Ballots.{valueOf}
 use Rattle.graph.specs.LearnerGraph.{LearnerGraph, isSafe, valid, condensed}
-use Rattle.protocol.specs.Message.{Message, idOf, isProposal, tran, ballot, valueOf, value, caughtIn}
+use Rattle.protocol.specs.Message.{Message, idOf, isProposal, tran, ballot, value, caughtIn}
 use Rattle.protocol.specs.WellFormed.{chained, formed1b}
 use Rattle.protocol.specs.Report.{decides, Verdict, decided, split, report}
 use Rattle.protocol.specs.Table.{Table, at, places, heldId, Ordered, tree, messages, content}

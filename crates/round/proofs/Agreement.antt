@@ -6,10 +6,11 @@ use mathlib.Core.List.{List, _++_, List·Memᴰ·append-cases, Memᴰ·append-le
 use Prim.Native.Nat.{ℕ, _<_}
 use lib.Dec.{not-T}
 use Rattle.base.specs.Tests.{_∈_}
+use Rattle.base.specs.Ballots.{valueOf}
 use Rattle.graph.specs.LearnerGraph.{LearnerGraph}
 use Rattle.graph.specs.Held.{viewOf}
 use Rattle.protocol.specs.Ids.{Id}
-use Rattle.protocol.specs.Message.{Message, valueOf, caughtIn}
+use Rattle.protocol.specs.Message.{Message, caughtIn}
 use Rattle.protocol.specs.Report.{Verdict, decided, split}
 use Rattle.protocol.specs.Table.{messages}
 use Rattle.protocol.specs.Theorems.{SoundGraph, Lawful, Entangled, Within}

@@ -3,6 +3,7 @@ use lib.Dec.{T}
 use Rattle.base.specs.Tests.{any, all, filter, below}
 use Rattle.base.specs.Sets.{has, contains, apart}
 use Rattle.base.specs.Bytes.{be, bytes}
+use Rattle.base.specs.Ballots.{valueOf}
 use Rattle.digest.specs.Constants.{constants}
 use Rattle.digest.specs.Preprocessing.{padding, padded, words}
 use Rattle.digest.specs.Sha256.{nextWord, extended, schedule, T₁, T₂, round, rounds, added, compressed, hash, joined, sha256}
@@ -11,7 +12,7 @@ use Rattle.graph.specs.File.{last, readMasks, readList, readLists, readRows, re
 use Rattle.graph.specs.Held.{triangle, pairList, listOf, holdAll, holdRows, heldOf}
 use Rattle.message.specs.Order.{before, ascending}
 use Rattle.protocol.specs.Ids.{sameId, samePrevious}
-use Rattle.protocol.specs.Message.{listed, idOf, signer, previous, references, isProposal, proposed, is1b, is2a, signers, tran, trans, largest, ballot, valueOf, value, forks, caughtIn, caught}
+use Rattle.protocol.specs.Message.{listed, idOf, signer, previous, references, isProposal, proposed, is1b, is2a, signers, tran, trans, largest, ballot, value, forks, caughtIn, caught}
 use Rattle.protocol.specs.Learners.{con, buriesBy, buriedBy, standsBy, con2aBy, con2asBy, freshBy, backsBy, backersBy, lrnsBy, height, heights, lrnsIn, lrns, overrides, ownVote, sameValue}
 use Rattle.protocol.specs.WellFormed.{isPrevious, linked, chained, alone, formed1b, formed2a, hasProposal}
 use Rattle.protocol.specs.Report as protocolReport

@@ -2,6 +2,7 @@
 use mathlib.Core.Path.{_≡_, sym, subst, _∙_}
 use mathlib.Core.List.{List}
 use Prim.Native.Nat.{ℕ, _<_}
+use Rattle.digest.specs.Sha256.{sha256}
 use Rattle.graph.specs.declared.Answer.the-variants.{Accepted}
 use Rattle.graph.specs.declared.Graph.{Graph}
 use Rattle.graph.specs.File.{answerOf}
@@ -10,11 +11,11 @@ use Rattle.graph.proofs.Whole.{reading-answer}
 use Rattle.graph.proofs.Accepted.{acceptedIsSound, undirected-symmetric}
 use Rattle.graph.proofs.Peopled.{accepted-peopled}
 use Rattle.protocol.specs.Theorems.{SoundGraph, Peopled}
-use Rattle.round.specs.declared.Round.{Round}
-use Rattle.round.specs.Demands.{Starts, AgreementOverLists, ChainOfReplies, ReachedFits, KnownBeneath, ValidityOverLists}
-use Rattle.round.proofs.CallLaws.{Fresh, OpeningLaw, CallLaws}
+use Rattle.round.specs.Demands.{AgreementOverLists, ChainOfReplies, DemandThree, ReachedFits, KnownBeneath, ValidityOverLists}
+use Rattle.round.proofs.CallLaws.{OpeningLaw, CallLaws}
 use Rattle.round.proofs.JustOpened.{opened-round}
 use Rattle.round.proofs.OneDelivery.{step}
+use Rattle.round.proofs.Sha256.{sha256IsIdRule}
 use Rattle.round.proofs.OneCall.{refused-leaves-all}
 use Rattle.round.proofs.Agreement as agreement
 use Rattle.round.proofs.Chain as chain
@@ -52,6 +53,10 @@ agreementOverLists = agreement.agreementOverLists callLaws
 -- DEMAND 3, THE CHAIN
 pub chainOfReplies : ChainOfReplies
 chainOfReplies = chain.chainOfReplies callLaws
+
+-- DEMAND 3, of the calls as they run
+pub demandThree : DemandThree
+demandThree = (agreementOverLists sha256 sha256IsIdRule, chainOfReplies sha256 sha256IsIdRule)
 
 pub reachedFits : ReachedFits
 reachedFits = known.reachedFits callLaws

@@ -5,10 +5,11 @@ use mathlib.Core.List.{List}
 use Prim.Native.Nat.{ℕ, _<_}
 use native.Mathlib.Omega.{arith}
 use Rattle.base.specs.Tests.{_∈_}
+use Rattle.base.specs.Ballots.{valueOf}
 use Rattle.graph.specs.LearnerGraph.{LearnerGraph}
 use Rattle.graph.specs.Held.{viewOf}
 use Rattle.protocol.specs.Ids.{Id}
-use Rattle.protocol.specs.Message.{Message, valueOf}
+use Rattle.protocol.specs.Message.{Message}
 use Rattle.protocol.specs.Report.{Verdict, decided, split, report}
 use Rattle.protocol.specs.Table.{Table, messages}
 use Rattle.protocol.specs.Theorems.{SoundGraph, Lawful, Entangled, Within}

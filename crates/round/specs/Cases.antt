@@ -6,11 +6,12 @@ use lib.Dec.{eqb}
 use lib.ListN.{length, replicate}
 use Rattle.base.specs.Tests.{pick}
 use Rattle.base.specs.Refusals.{numberOf}
+use Rattle.base.specs.Ballots.{valueOf}
 use Rattle.digest.specs.Sha256.{sha256}
 use Rattle.message.specs.Writer.{acceptorBytes}
 use Rattle.message.specs.Order.{before}
 use Rattle.protocol.specs.Ids.{Id}
-use Rattle.protocol.specs.Message.{is1b, is2a, valueOf}
+use Rattle.protocol.specs.Message.{is1b, is2a}
 use Rattle.protocol.specs.Learners.{lrns}
 use Rattle.protocol.specs.Table.{tree}
 use Rattle.round.specs.declared.Round.{Round}

@@ -12,6 +12,8 @@ use Rattle.base.specs.Tests.{_∈_}
 use Rattle.base.specs.Refusals.{numberOf}
 use Rattle.base.specs.declared.refusal.Refusal.{Refusal}
 use Rattle.base.specs.declared.refusal.Refusal.the-variants.{OtherRound, Argument}
+use Rattle.base.specs.Ballots.{valueOf}
+use Rattle.digest.specs.Sha256.{sha256}
 use Rattle.graph.specs.LearnerGraph.{LearnerGraph, isSafe}
 use Rattle.message.specs.Layout.{idLen}
 use Rattle.message.specs.Reader.{reading}
@@ -19,7 +21,7 @@ use Rattle.message.specs.declared.Proposal.{Proposal}
 use Rattle.message.specs.declared.AcceptorMessage.{AcceptorMessage}
 use Rattle.message.specs.declared.Reading.the-variants.{OfProposer, OfAcceptor}
 use Rattle.protocol.specs.Ids.{Id}
-use Rattle.protocol.specs.Message.{Message, valueOf}
+use Rattle.protocol.specs.Message.{Message}
 use Rattle.protocol.specs.Table.{reach}
 use Rattle.round.specs.declared.Round.{Round}
 use Rattle.round.specs.declared.Opening.the-variants.{Opened}
@@ -92,14 +94,16 @@ pub record OneValue (l : List Report) : Type 0 where
 
 -- "Learner A and learner B follow one house and bay under one accepted graph, each from a freshly opened round. Take every two lists of
 -- deliveries and reports, refused ones included, one on A's round and one on B's .."
-abbrev pub AgreementOverLists : Type 0
-AgreementOverLists = (H : List ℕ → Id) → IdRule H
-    → (file : List ℕ) (house bay ownA ownB : ℕ) (rA rB : Round) → Starts file house bay ownA rA → Starts file house bay ownB rB
+abbrev pub AgreementWith : (List ℕ → Id) → Type 0
+AgreementWith H = (file : List ℕ) (house bay ownA ownB : ℕ) (rA rB : Round) → Starts file house bay ownA rA → Starts file house bay ownB rB
     → (a b : ℕ) → a < rA .graph .learners → b < rA .graph .learners
     → (lA lB : List Call)
     → SafeEdge (graphOf rA) (accepted (run H rA lA) ++ accepted (run H rB lB)) a b
     → NoCollision H ((accepted (run H rA lA) ++ accepted (run H rB lB)) ++ (written (run H rA lA) ++ written (run H rB lB)))
     → OneValue (reports a (run H rA lA) ++ reports b (run H rB lB))
+
+abbrev pub AgreementOverLists : Type 0
+AgreementOverLists = (H : List ℕ → Id) → IdRule H → AgreementWith H
 
 -- ---- DEMAND 3, THE CHAIN
 -- a written message names a previous id, or none
@@ -113,10 +117,16 @@ ChainFrom H p (z ∷ l) = Names z p × ChainFrom H (some (H z)) l
 
 -- "And for every list of these calls on our acceptor, started once, the first message it writes names no previous one, and each later one
 -- names the one it wrote just before."
-abbrev pub ChainOfReplies : Type 0
-ChainOfReplies = (H : List ℕ → Id) → IdRule H
-    → (file : List ℕ) (house bay own : ℕ) (r : Round) → Starts file house bay own r → own < listening
+abbrev pub ChainWith : (List ℕ → Id) → Type 0
+ChainWith H = (file : List ℕ) (house bay own : ℕ) (r : Round) → Starts file house bay own r → own < listening
     → (l : List Call) → ChainFrom H none (written (run H r l))
+
+abbrev pub ChainOfReplies : Type 0
+ChainOfReplies = (H : List ℕ → Id) → IdRule H → ChainWith H
+
+-- both with the ids that the calls use
+abbrev pub DemandThree : Type 0
+DemandThree = AgreementWith sha256 × ChainWith sha256
 
 -- ---- DEMAND 1, on each call
 -- "Nothing refused alters a round or a reply buffer."

@@ -8,8 +8,7 @@ use native.Mathlib.Omega.{arith}
 use lib.ListN.{length, getD, take, drop, replicate, length-append, length-replicate}
 use lib.Seq.{split-at, take-suc, take-all, take-at, drop-at, getD-at, length-take-le}
 use Rattle.base.specs.Bytes.{be, bytes, part, putAt, Octets}
-use Rattle.base.proofs.Bytes.{bytes-length, part-length, part-suc, part-add, be-at, be-bytes, bytes-be}
-use Rattle.roundbytes.proofs.Buffers.{putAt-more, putAt-whole}
+use Rattle.base.proofs.Bytes.{bytes-length, part-length, part-suc, part-add, be-at, be-bytes, bytes-be, putAt-more, putAt-whole}
 use Rattle.round.specs.declared.Round.{Round}
 use Rattle.roundbytes.specs.Layout.{words, numbers, graphBytes, numberBytes, roundLen, roundBytes, graphIn, roundIn, Sized, Laid, RoundReadsBack, BytesWrittenBack}
 

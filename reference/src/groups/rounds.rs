@@ -1,47 +1,43 @@
-//! Rounds: opening, delivery and report, on sample rounds and on random sites.
+//! Rounds: opening, delivery and report, on sample rounds, on random sites, and
+//! on rounds that are handed in damaged.
 
 mod agreement;
+mod forgery;
 mod judged;
+mod liar;
 mod samples;
 mod seat;
+mod tampered;
 mod traffic;
+mod watched;
 
-use crate::tally::{Reached, Tally};
+use crate::tally::Tally;
 use crate::Settings;
 use agreement::Met;
-use seat::Referee;
+use watched::{Counts, Referee};
 
-/// How many rounds are opened on random sites; fewer while the model runs alone.
+/// How many rounds run on random sites; fewer while the model runs alone.
 const ROUNDS: u64 = if cfg!(feature = "rounds") { 20_000 } else { 1_000 };
 /// How many openings from random files are tried beside each site.
 const OPENINGS: usize = 3;
 /// How often each number must be reached.
 const LEAST: u64 = if cfg!(feature = "rounds") { 100 } else { 1 };
+/// What the lines say of a run without the library.
+const ALONE: &str = if cfg!(feature = "rounds") { "" } else { ", the model alone" };
 
-fn referee(settings: &Settings, comparison: u64) -> Referee {
-    Referee {
-        random: settings.random(comparison),
-        tally: Tally::default(),
-        reached: Reached::new(),
-        rounds: 0,
-        deliveries: 0,
-        reports: 0,
-        replies: 0,
-        longest: 0,
-        outcomes: [0; 3],
-    }
-}
+/// Every number but 13, which no message can reach.
+const OF_OPENED: [usize; 17] = [0, 1, 2, 3, 4, 5, 6, 7, 8, 9, 10, 11, 12, 14, 15, 16, 17];
+/// 5, 6 and 7 are about graph files.
+const OF_HANDED_IN: [usize; 14] = [0, 1, 2, 3, 4, 8, 9, 10, 11, 12, 14, 15, 16, 17];
 
 pub fn run(settings: &Settings) -> Tally {
-    let mut samples = referee(settings, 5);
+    let mut samples = Referee::new(settings.random(5));
     samples::run(&mut samples);
-    let judged = if cfg!(feature = "rounds") { "" } else { ", the model alone" };
     samples.tally.line(
         "rounds",
-        &format!("document 01's sample rounds and the examples of rows 8 to 17{judged}"),
+        &format!("document 01's sample rounds and the examples of rows 8 to 17{ALONE}"),
     );
-
-    let mut referee = referee(settings, 6);
+    let mut referee = Referee::new(settings.random(6));
     let mut met = Met::default();
     let mut sites = 0;
     while referee.rounds < ROUNDS * settings.scale {
@@ -51,22 +47,35 @@ pub fn run(settings: &Settings) -> Tally {
         }
         sites += 1;
     }
-    let Referee { rounds, deliveries, reports, replies, longest, outcomes, .. } = referee;
-    let wanted: Vec<usize> = (1..=17).filter(|number| *number != 13).collect();
-    referee.reached.line("rounds", "all calls", &wanted, LEAST, &mut referee.tally);
-    let [undecided, decided, split] = outcomes;
-    println!("rounds: reports: {undecided} undecided, {decided} decided, {split} split; replies of up to {longest} bytes");
-    referee.tally.check(outcomes.iter().all(|count| *count >= LEAST), || {
-        format!("each outcome of a report was not seen {LEAST} times")
-    });
+    let Referee { opened, handed_in, mut tally, rounds, .. } = referee;
+    tell(&opened, "rounds from an opening", &OF_OPENED, &mut tally);
+    tell(&handed_in, "rounds handed in", &OF_HANDED_IN, &mut tally);
     println!(
         "rounds: agreement met {} pairs of learners that were bound and had decided, and {} that were not bound and ended apart",
         met.bound, met.apart
     );
-    referee.tally.line(
-        "rounds",
-        &format!("{rounds} rounds on {sites} sites, {deliveries} deliveries with {replies} replies, {reports} reports{judged}"),
+    let told = format!(
+        "{rounds} rounds on {sites} sites, {} handed in of which {} pass row 17{ALONE}",
+        handed_in.rounds, handed_in.taken
     );
-    samples.tally.add(&referee.tally);
+    tally.line("rounds", &told);
+    samples.tally.add(&tally);
     samples.tally
+}
+
+/// Says what the calls on some rounds met, and checks that they met enough.
+fn tell(counts: &Counts, which: &str, wanted: &[usize], tally: &mut Tally) {
+    counts.reached.line("rounds", which, wanted, LEAST, tally);
+    let Counts { deliveries, accepted, returned, replies, longest, reports, .. } = counts;
+    let [undecided, decided, split] = counts.outcomes;
+    println!("rounds: {which}: {deliveries} deliveries, {accepted} accepted, {returned} of these returning; {replies} replies of up to {longest} bytes");
+    println!("rounds: {which}: {reports} reports: {undecided} undecided, {decided} decided, {split} split");
+    for (what, count) in [
+        ("message returning", *returned),
+        ("undecided", undecided),
+        ("decided", decided),
+        ("split", split),
+    ] {
+        tally.check(count >= LEAST, || format!("{which}: {what} {count} times, not {LEAST}"));
+    }
 }

@@ -1,17 +1,15 @@
 use Rattle.base.specs.Bytes.{bytes}
-use mathlib.Core.Path.{_≡_, refl, ap, ap₂, sym, _∙_}
-use mathlib.Core.List.{List, [], _∷_, _++_}
-use Prim.Native.Nat.{ℕ, suc, _≤_, _<_, _-_, _+_, _*_, _/_, _%_}
+use mathlib.Core.Path.{_≡_, _∙_}
+use mathlib.Core.List.{[], _∷_}
+use Prim.Native.Nat.{_-_, _/_, _%_}
 use native.Mathlib.Numerals.{add-one}
-use lib.ListN.{length, getD, take, drop, set, length-set}
+use lib.ListN.{set, length-set}
 use lib.Seq.{sets-eq}
 use lib.Bits.{mask-lt, and-mask}
 use borrow.Author.Needs.{needs}
 use native.Mathlib.Omega.{arith}
 use Rattle.base.proofs.put16.Statement.{statement}
 use Rattle.base.proofs.put16.Tie as tie
-use Rattle.base.proofs.put16.Reads as reads
-use Rattle.base.proofs.put16.Lts as lts
 
 cast-buf : tie.Need-cast-buf
 cast-buf c = search needs

@@ -9,8 +9,6 @@ use borrow.Author.Needs.{needs}
 use native.Mathlib.Omega.{arith}
 use Rattle.base.proofs.put64.Statement.{statement}
 use Rattle.base.proofs.put64.Tie as tie
-use Rattle.base.proofs.put64.Reads as reads
-use Rattle.base.proofs.put64.Lts as lts
 
 cast-buf : tie.Need-cast-buf
 cast-buf c = search needs

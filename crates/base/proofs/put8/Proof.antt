@@ -4,8 +4,6 @@ use borrow.Author.Needs.{needs}
 use native.Mathlib.Omega.{arith}
 use Rattle.base.proofs.put8.Statement.{statement}
 use Rattle.base.proofs.put8.Tie as tie
-use Rattle.base.proofs.put8.Reads as reads
-use Rattle.base.proofs.put8.Lts as lts
 
 slice-write-buf : tie.Need-slice-write-buf
 slice-write-buf c = search needs

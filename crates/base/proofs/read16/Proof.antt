@@ -1,14 +1,11 @@
 use Rattle.base.proofs.Bytes.{be1}
-use mathlib.Core.Path.{_≡_, _∙_}
+use mathlib.Core.Path.{_∙_}
 use Rattle.base.specs.Bytes.{be}
 use Rattle.base.proofs.Bits as laws
 use borrow.Author.Needs.{needs}
 use native.Mathlib.Omega.{arith}
 use Rattle.base.proofs.read16.Statement.{statement}
 use Rattle.base.proofs.read16.Tie as tie
-use Rattle.base.proofs.read16.Reads as reads
-use Rattle.base.proofs.read16.Lts as lts
-use Rattle.base.proofs.size.Reads as size-reads
 
 shared-slice-read-size : tie.Need-shared-slice-read-size
 shared-slice-read-size c = search needs

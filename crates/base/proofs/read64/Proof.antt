@@ -1,14 +1,11 @@
 use Rattle.base.proofs.Bytes.{be1}
 use Rattle.base.specs.Bytes.{be}
-use mathlib.Core.Path.{_≡_, _∙_, sym}
+use mathlib.Core.Path.{_∙_}
 use Rattle.base.proofs.Bits as laws
 use borrow.Author.Needs.{needs}
 use native.Mathlib.Omega.{arith}
 use Rattle.base.proofs.read64.Statement.{statement}
 use Rattle.base.proofs.read64.Tie as tie
-use Rattle.base.proofs.read64.Reads as reads
-use Rattle.base.proofs.read64.Lts as lts
-use Rattle.base.proofs.wide.Reads as wide-reads
 
 shared-slice-read-wide : tie.Need-shared-slice-read-wide
 shared-slice-read-wide c = search needs

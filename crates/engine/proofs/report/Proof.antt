@@ -7,7 +7,7 @@ use Rattle.protocol.specs.Report as paper
 use Rattle.derive.specs.Deciding.{shown}
 use Rattle.round.specs.Held.{graphOf, knownMessages}
 use Rattle.round.specs.Handed.{fits}
-use Rattle.engine.specs.Lent.{answerTo}
+use Rattle.engine.specs.Telling.{answerTo}
 use Rattle.engine.proofs.Worked.{refused-round, refused-learner, reported-told, told-shown}
 use borrow.Author.Needs.{needs}
 use native.Mathlib.Omega.{arith}

@@ -1,29 +1,12 @@
-use mathlib.Core.Path.{_≡_, refl, ap, ap₂, sym, _∙_}
-use Prim.Native.Nat.{ℕ, suc, _≤_, _<_, _-_, _+_, _*_, _/_, _^_, min, max}
-use lib.ListN.{length, getD}
-use mathlib.Core.Bool.{Bool, true, false}
-use borrow.Author.Tests.{eq-eqb, ne-eqb, not-true, not-false}
-use Rattle.base.specs.Tests.{pick}
-use lib.Dec.{eqb}
-use Rattle.base.specs.declared.refusal.Refusal.{Refusal}
-use Rattle.base.specs.declared.refusal.Refusal.the-variants.{Length}
-use Rattle.graph.specs.declared.Reading.{Reading}
-use Rattle.graph.specs.File.{Got, got, no, Contents, readGraph, contents}
-use Rattle.graph.specs.Held.{Held, heldOf, contentsReading, readingOf, graphOfHeld}
-use Rattle.graph.specs.declared.Answer.the-variants.{Accepted, Refused}
-use Rattle.graph.specs.declared.file.Field.the-variants as Field
+use mathlib.Core.Path.{ap, sym, _∙_}
+use Prim.Native.Nat.{_-_}
+use Rattle.graph.specs.Held.{contentsReading}
 use Rattle.graph.proofs.Reader.{count-is}
 use Rattle.graph.proofs.Whole.{length-wrong, version-absent, version-wrong, acceptors-no, learners-no, lists-behind}
 use borrow.Author.Needs.{needs}
 use native.Mathlib.Omega.{arith}
 use Rattle.graph.proofs.read.Statement.{statement}
 use Rattle.graph.proofs.read.Tie as tie
-use Rattle.graph.proofs.read.Reads as reads
-use Rattle.graph.proofs.read.Lts as lts
-use Rattle.base.proofs.read16.Reads as read16-reads
-use Rattle.graph.proofs.file.read_count.Reads as read-count-reads
-use Rattle.graph.proofs.read_lists.Reads as read-lists-reads
-use Rattle.graph.proofs.refused.Reads as refused-reads
 
 refused-requires : tie.Need-refused-requires
 refused-requires c κs = search needs

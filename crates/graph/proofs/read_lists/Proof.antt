@@ -1,29 +1,19 @@
-use mathlib.Core.Path.{_≡_, refl, ap, ap₂, sym, _∙_}
-use Prim.Native.Nat.{ℕ, suc, _≤_, _<_, _-_, _+_, _*_, _/_, _^_, min, max}
-use lib.ListN.{length, getD}
-use mathlib.Core.Bool.{Bool, true, false}
+use mathlib.Core.Path.{_≡_, ap, sym, _∙_}
+use Prim.Native.Nat.{ℕ, _-_}
+use lib.ListN.{length}
+use mathlib.Core.Bool.{Bool}
 use borrow.Author.Tests.{eq-eqb, ne-eqb, not-true, not-false}
 use Rattle.base.specs.Tests.{pick}
-use lib.Dec.{eqb}
-use Rattle.base.specs.declared.refusal.Refusal.{Refusal}
 use Rattle.base.specs.declared.refusal.Refusal.the-variants.{Length}
 use Rattle.graph.specs.declared.Reading.{Reading}
-use Rattle.graph.specs.File.{Got, got, no, Contents, readGraph, contents}
-use Rattle.graph.specs.Held.{Held, heldOf, contentsReading, readingOf, graphOfHeld}
-use Rattle.graph.specs.declared.Answer.the-variants.{Accepted, Refused}
+use Rattle.graph.specs.File.{got, no, readGraph}
+use Rattle.graph.specs.Held.{Held, contentsReading, graphOfHeld}
+use Rattle.graph.specs.declared.Answer.the-variants.{Accepted}
 use Rattle.graph.proofs.Whole.{quorums-no, quorums-end, rows-no, all-read, not-valid, not-condensed, accepted}
 use borrow.Author.Needs.{needs}
 use native.Mathlib.Omega.{arith}
 use Rattle.graph.proofs.read_lists.Statement.{statement}
 use Rattle.graph.proofs.read_lists.Tie as tie
-use Rattle.graph.proofs.read_lists.Reads as reads
-use Rattle.graph.proofs.read_lists.Lts as lts
-use Rattle.base.proofs.size.Reads as size-reads
-use Rattle.graph.proofs.condensed.is_condensed.Reads as is-condensed-reads
-use Rattle.graph.proofs.file.read_quorums.Reads as read-quorums-reads
-use Rattle.graph.proofs.file.read_rows.Reads as read-rows-reads
-use Rattle.graph.proofs.refused.Reads as refused-reads
-use Rattle.graph.proofs.valid.is_valid.Reads as is-valid-reads
 
 size-requires : tie.Need-size-requires
 size-requires c κs = search needs

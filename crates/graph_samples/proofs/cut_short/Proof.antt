@@ -1,14 +1,9 @@
-use mathlib.Core.Path.{_≡_, refl}
-use Prim.Native.Nat.{ℕ, _≤_, _<_, _-_, _+_, _*_}
+use mathlib.Core.Path.{_≡_}
+use Prim.Native.Nat.{_≤_, _-_, _+_}
 use lib.ListN.{length}
 use borrow.Author.Needs.{needs}
-use native.Mathlib.Omega.{arith}
 use Rattle.graph_samples.proofs.cut_short.Statement.{statement}
 use Rattle.graph_samples.proofs.cut_short.Tie as tie
-use Rattle.graph_samples.proofs.cut_short.Reads as reads
-use Rattle.graph_samples.proofs.cut_short.Lts as lts
-use Rattle.base.proofs.put16.Reads as put16-reads
-use Rattle.graph_samples.proofs.failed_front.Reads as failed-front-reads
 
 abbrev Inv-loop : tie.InvT-loop
 Inv-loop file₀ n₀ k₀ file n k = (2 ≤ k) × ((k ≤ 50) × ((n + 2 ≤ k) × (length file ≡ 50)))

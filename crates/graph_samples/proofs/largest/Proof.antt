@@ -1,14 +1,9 @@
-use mathlib.Core.Path.{_≡_, refl}
-use Prim.Native.Nat.{ℕ, _≤_, _<_, _-_, _+_, _*_}
+use mathlib.Core.Path.{_≡_}
+use Prim.Native.Nat.{_≤_, _-_}
 use lib.ListN.{length}
 use borrow.Author.Needs.{needs}
-use native.Mathlib.Omega.{arith}
 use Rattle.graph_samples.proofs.largest.Statement.{statement}
 use Rattle.graph_samples.proofs.largest.Tie as tie
-use Rattle.graph_samples.proofs.largest.Reads as reads
-use Rattle.graph_samples.proofs.largest.Lts as lts
-use Rattle.base.proofs.put_all.Reads as put-all-reads
-use Rattle.graph_samples.proofs.failed.Reads as failed-reads
 
 abbrev Inv-loop : tie.InvT-loop
 Inv-loop list file₀ k₀ file k = (k ≤ 44) × ((length file ≡ 753) × (length list ≡ 17))

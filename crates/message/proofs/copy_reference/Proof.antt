@@ -1,5 +1,5 @@
 use mathlib.Core.Path.{_≡_, refl, ap, sym, _∙_}
-use mathlib.Core.List.{List, []}
+use mathlib.Core.List.{[]}
 use Prim.Native.Nat.{ℕ, _+_, _-_}
 use lib.ListN.{length, take, drop}
 use borrow.Author.Tests.{lt-ltb, le-ltb}
@@ -12,10 +12,6 @@ use borrow.Author.Needs.{needs}
 use native.Mathlib.Omega.{arith}
 use Rattle.message.proofs.copy_reference.Statement.{statement}
 use Rattle.message.proofs.copy_reference.Tie as tie
-use Rattle.message.proofs.copy_reference.Reads as reads
-use Rattle.message.proofs.copy_reference.Lts as lts
-use Rattle.base.proofs.put_all.Reads as put-all-reads
-use Rattle.message.proofs.reference.Reads as reference-reads
 
 returns : tie.Need-returns
 returns c =

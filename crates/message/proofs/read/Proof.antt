@@ -1,5 +1,5 @@
-use mathlib.Core.Path.{_≡_, refl, sym, ap, _∙_}
-use Prim.Native.Nat.{ℕ, _+_}
+use mathlib.Core.Path.{_≡_, sym, _∙_}
+use Prim.Native.Nat.{_+_}
 use lib.ListN.{length, getD}
 use borrow.Author.Tests.{le-ltb, lt-ltb, lt-leb, le-leb, eq-eqb, ne-eqb}
 use Rattle.base.specs.Bytes.{be}
@@ -9,11 +9,6 @@ use borrow.Author.Needs.{needs}
 use native.Mathlib.Omega.{arith}
 use Rattle.message.proofs.read.Statement.{statement}
 use Rattle.message.proofs.read.Tie as tie
-use Rattle.message.proofs.read.Reads as reads
-use Rattle.message.proofs.read.Lts as lts
-use Rattle.base.proofs.read16.Reads as read16-reads
-use Rattle.message.proofs.reader.read_acceptor.Reads as read-acceptor-reads
-use Rattle.message.proofs.reader.read_proposal.Reads as read-proposal-reads
 
 returns : tie.Need-returns
 returns c = simp (lt-leb 2 (length (c .before .before .args .bytes .now)) (omega arith))

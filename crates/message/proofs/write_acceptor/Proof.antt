@@ -1,26 +1,17 @@
-use mathlib.Core.Path.{_≡_, refl, ap, sym, _∙_}
-use mathlib.Core.List.{List, [], _∷_, _++_}
+use mathlib.Core.Path.{_≡_, ap, sym, _∙_}
+use mathlib.Core.List.{[], _∷_, _++_}
 use Prim.Native.Nat.{ℕ, _+_, _*_}
 use lib.ListN.{length, length-append}
-use Rattle.base.specs.Tests.{pick}
 use Rattle.base.specs.Bytes.{putAt}
 use Rattle.base.proofs.Bytes.{more-at}
 use Rattle.message.specs.Layout.{marker, acceptorLen}
-use Rattle.message.specs.Writer.{headBytes, hasPrevious, acceptorBytes, gathered, fronted}
+use Rattle.message.specs.Writer.{headBytes, hasPrevious, gathered, fronted}
 use Rattle.message.proofs.Encoding.{head-length, previous-span, acceptor-length}
 use Rattle.message.proofs.Gathers.{gathered-length}
 use borrow.Author.Needs.{needs}
 use native.Mathlib.Omega.{arith}
 use Rattle.message.proofs.write_acceptor.Statement.{statement}
 use Rattle.message.proofs.write_acceptor.Tie as tie
-use Rattle.message.proofs.write_acceptor.Reads as reads
-use Rattle.message.proofs.write_acceptor.Lts as lts
-use Rattle.base.proofs.put8.Reads as put8-reads
-use Rattle.base.proofs.put_all.Reads as put-all-reads
-use Rattle.message.proofs.layout.count_at.Reads as count-at-reads
-use Rattle.message.proofs.layout.marker_of.Reads as marker-of-reads
-use Rattle.message.proofs.writer.put_references.Reads as put-references-reads
-use Rattle.message.proofs.writer.write_head.Reads as write-head-reads
 
 count-at-requires : tie.Need-count-at-requires
 count-at-requires c κs = search needs

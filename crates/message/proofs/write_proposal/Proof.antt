@@ -1,22 +1,14 @@
-use mathlib.Core.Path.{_≡_, refl, ap, _∙_}
-use mathlib.Core.List.{List}
+use mathlib.Core.Path.{_≡_, ap, _∙_}
 use Prim.Native.Nat.{ℕ}
 use lib.ListN.{length}
 use borrow.Author.Tests.{lt-ltb, le-ltb}
 use Rattle.base.specs.Bytes.{bytes, putAt}
 use Rattle.base.proofs.Bytes.{more}
-use Rattle.message.specs.Ballots.{ballotOf, writtenRound}
-use Rattle.message.specs.Writer.{headBytes, proposalBytes, proposalOf}
+use Rattle.base.specs.Ballots.{ballotOf}
+use Rattle.message.specs.Writer.{headBytes, writtenRound}
 use borrow.Author.Needs.{needs}
-use native.Mathlib.Omega.{arith}
 use Rattle.message.proofs.write_proposal.Statement.{statement}
 use Rattle.message.proofs.write_proposal.Tie as tie
-use Rattle.message.proofs.write_proposal.Reads as reads
-use Rattle.message.proofs.write_proposal.Lts as lts
-use Rattle.base.proofs.put64.Reads as put64-reads
-use Rattle.message.proofs.ballot.ballot_of.Reads as ballot-of-reads
-use Rattle.message.proofs.ballot.written_round.Reads as written-round-reads
-use Rattle.message.proofs.writer.write_head.Reads as write-head-reads
 
 returns : tie.Need-returns
 unfolding bytes

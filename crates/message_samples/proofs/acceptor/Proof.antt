@@ -1,12 +1,9 @@
 use mathlib.Core.Path.{_≡_}
-use Prim.Native.Nat.{ℕ, _-_, _≤_}
+use Prim.Native.Nat.{_-_, _≤_}
 use lib.ListN.{length}
 use borrow.Author.Needs.{needs}
-use native.Mathlib.Omega.{arith}
 use Rattle.message_samples.proofs.acceptor.Statement.{statement}
 use Rattle.message_samples.proofs.acceptor.Tie as tie
-use Rattle.message_samples.proofs.acceptor.Reads as reads
-use Rattle.message_samples.proofs.acceptor.Lts as lts
 
 abbrev Inv-loop : tie.InvT-loop
 Inv-loop marker at count n m₀ k₀ m k = (k ≤ n) × (length m ≡ 4300)

@@ -1,12 +1,7 @@
-use Prim.Native.Nat.{ℕ, _-_, _≤_}
+use Prim.Native.Nat.{_-_, _≤_}
 use borrow.Author.Needs.{needs}
-use native.Mathlib.Omega.{arith}
 use Rattle.message_samples.proofs.cuts.Statement.{statement}
 use Rattle.message_samples.proofs.cuts.Tie as tie
-use Rattle.message_samples.proofs.cuts.Reads as reads
-use Rattle.message_samples.proofs.cuts.Lts as lts
-use Rattle.message_samples.proofs.code_of.Reads as code-of-reads
-use Rattle.message_samples.proofs.tried.Reads as tried-reads
 
 abbrev Inv-loop : tie.InvT-loop
 Inv-loop m len t₀ n₀ t n = (2 ≤ n)

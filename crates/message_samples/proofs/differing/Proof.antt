@@ -1,11 +1,7 @@
-use Prim.Native.Nat.{ℕ, _-_, _≤_}
+use Prim.Native.Nat.{_-_, _≤_}
 use borrow.Author.Needs.{needs}
-use native.Mathlib.Omega.{arith}
 use Rattle.message_samples.proofs.differing.Statement.{statement}
 use Rattle.message_samples.proofs.differing.Tie as tie
-use Rattle.message_samples.proofs.differing.Reads as reads
-use Rattle.message_samples.proofs.differing.Lts as lts
-use Rattle.std.proofs.num.wrapping_add_u32.Reads as wrapping-add-u32-reads
 
 abbrev Inv-loop : tie.InvT-loop
 Inv-loop a b n d₀ i₀ d i = i ≤ n

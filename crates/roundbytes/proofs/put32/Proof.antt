@@ -3,8 +3,7 @@ use mathlib.Core.List.{_++_}
 use Prim.Native.Nat.{ℕ, _+_, _/_, _<_}
 use lib.Bits.{bitAnd, mask-lt, and-mask}
 use Rattle.base.specs.Bytes.{bytes, putAt}
-use Rattle.base.proofs.Bytes.{bytes-length}
-use Rattle.roundbytes.proofs.Buffers.{putAt-more}
+use Rattle.base.proofs.Bytes.{bytes-length, putAt-more}
 use Rattle.roundbytes.proofs.RoundBytes.{bytes-four}
 use borrow.Author.Needs.{needs}
 use native.Mathlib.Omega.{arith}

@@ -1,7 +1,7 @@
 use mathlib.Core.Path.{_≡_, refl}
 use mathlib.Core.List.{[], _∷_}
 use lib.ListN.{length}
-use Rattle.roundbytes.proofs.Buffers.{putAt-more}
+use Rattle.base.proofs.Bytes.{putAt-more}
 use Rattle.roundbytes.specs.Layout.{words}
 use borrow.Author.Needs.{needs}
 use native.Mathlib.Omega.{arith}

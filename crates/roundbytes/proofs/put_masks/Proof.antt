@@ -6,8 +6,7 @@ use native.Mathlib.Numerals.{add-one}
 use lib.ListN.{length, getD, take}
 use lib.Seq.{length-take-le, take-length, take-suc}
 use Rattle.base.specs.Bytes.{bytes, putAt}
-use Rattle.base.proofs.Bytes.{putAt-none}
-use Rattle.roundbytes.proofs.Buffers.{putAt-more}
+use Rattle.base.proofs.Bytes.{putAt-none, putAt-more}
 use Rattle.roundbytes.specs.Layout.{words}
 use Rattle.roundbytes.proofs.RoundBytes.{words-snoc, words-length}
 use borrow.Author.Needs.{needs}

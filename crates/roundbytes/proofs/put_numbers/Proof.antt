@@ -1,7 +1,7 @@
 use mathlib.Core.Path.{refl}
 use mathlib.Core.List.{[], _∷_, _++_}
 use Rattle.base.specs.Bytes.{bytes}
-use Rattle.roundbytes.proofs.Buffers.{putAt-more}
+use Rattle.base.proofs.Bytes.{putAt-more}
 use borrow.Author.Needs.{needs}
 use native.Mathlib.Omega.{arith}
 use Rattle.roundbytes.proofs.put_numbers.Statement.{statement}

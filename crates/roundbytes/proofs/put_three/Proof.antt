@@ -1,8 +1,7 @@
 use mathlib.Core.List.{_++_}
 use Prim.Native.Nat.{_+_}
-use lib.ListN.{length}
-use Rattle.roundbytes.proofs.Buffers.{putAt-more}
-use lib.ListN.{length-append}
+use lib.ListN.{length, length-append}
+use Rattle.base.proofs.Bytes.{putAt-more}
 use borrow.Author.Needs.{needs}
 use native.Mathlib.Omega.{arith}
 use Rattle.roundbytes.proofs.put_three.Statement.{statement}

@@ -1,7 +1,7 @@
 use mathlib.Core.Path.{refl}
 use Prim.Native.Nat.{_+_}
 use lib.ListN.{length}
-use Rattle.roundbytes.proofs.Buffers.{putAt-more}
+use Rattle.base.proofs.Bytes.{putAt-more}
 use borrow.Author.Needs.{needs}
 use native.Mathlib.Omega.{arith}
 use Rattle.roundbytes.proofs.put_two.Statement.{statement}

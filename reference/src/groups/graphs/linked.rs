@@ -22,7 +22,7 @@ pub fn random_graphs(settings: &Settings) -> Tally {
     let mut tally = Tally::default();
     let mut own = Tally::default();
     let mut random = settings.random(4);
-    let mut reached = Reached::new();
+    let mut reached = Reached::default();
     let count = GRAPHS * settings.scale;
     for _ in 0..count {
         let file = damage::graph_file(&mut random);

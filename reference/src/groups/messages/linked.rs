@@ -80,7 +80,7 @@ fn random_buffer(random: &mut Random, needed: usize) -> Lent {
 pub fn random_strings(settings: &Settings) -> Tally {
     let mut tally = Tally::default();
     let mut random = settings.random(2);
-    let (mut read, mut referred) = (Reached::new(), Reached::new());
+    let (mut read, mut referred) = (Reached::default(), Reached::default());
     let count = STRINGS * settings.scale;
     for _ in 0..count {
         let bytes = random_string(&mut random);

@@ -1,6 +1,7 @@
 //! Demand 3, checked on what was seen at one site.
 
-use super::seat::{Referee, Seat};
+use super::seat::Seat;
+use super::watched::Referee;
 use reference::graph::{LearnerGraph, Mask};
 use reference::sha256::Id;
 use std::collections::HashMap;

@@ -5,45 +5,55 @@ pub use linked::Judged;
 #[cfg(not(feature = "rounds"))]
 pub use unlinked::Judged;
 
+use reference::refusal::Refusal;
+
+/// What the model answers to a delivery: a reply, or none, or a refusal.
+pub type Answer = Result<Option<Vec<u8>>, Refusal>;
+
+/// Nothing, or how the library differed from the model.
+pub type Verdict = Result<(), String>;
+
 #[cfg(feature = "rounds")]
 mod linked {
+    use super::{Answer, Verdict};
     use crate::tally::Lent;
-    use reference::graph;
+    use reference::layout::{first_difference, ROUND_LEN};
     use reference::library;
     use reference::random::Random;
-    use reference::refusal::Refusal;
-    use reference::round::{Report, Round};
-    use reference::sites::g0;
-    use std::sync::OnceLock;
+    use reference::refusal::{answer, Refusal};
+    use reference::round::Report;
 
-    /// How many bytes a round takes: the least buffer in which one opens.
-    fn round_bytes() -> usize {
-        static BYTES: OnceLock<usize> = OnceLock::new();
-        *BYTES.get_or_init(|| {
-            let file = graph::write(&g0());
-            let opens = |len: usize| library::open(&file, 1, 1, None, &mut vec![0; len]) == 0;
-            let mut enough = 1;
-            while !opens(enough) {
-                enough *= 2;
-                assert!(enough < 1 << 24, "no buffer is large enough to open a round");
-            }
-            let mut short = enough / 2;
-            while enough - short > 1 {
-                let middle = (short + enough) / 2;
-                if opens(middle) {
-                    enough = middle;
-                } else {
-                    short = middle;
-                }
-            }
-            enough
-        })
+    fn numbers_agree(library: u32, model: u32) -> Verdict {
+        if library == model {
+            return Ok(());
+        }
+        Err(format!("answer {library}, model {model}"))
     }
 
-    /// Whether the bytes of an accepted call are those of the model's round, the
-    /// unused ones as they were. To be filled in when the header fixes the layout.
-    fn round_agrees(_model: &Round, _before: &[u8], _after: &[u8]) -> bool {
-        true
+    /// Whether `front` was written to the front of a buffer, and nothing else.
+    fn buffer_agrees(name: &str, buffer: &Lent, front: &[u8]) -> Verdict {
+        if buffer.holds_only(front) {
+            return Ok(());
+        }
+        Err(format!("the {name} buffer differs from the model's {} bytes", front.len()))
+    }
+
+    /// Whether every byte of the round is the one that the model foretells, and
+    /// those around it are as they were.
+    fn round_agrees(round: &Lent, foretold: &[u8]) -> Verdict {
+        if round.holds_only(foretold) {
+            return Ok(());
+        }
+        let difference = first_difference(round.after(), foretold);
+        Err(difference.unwrap_or_else(|| "bytes that are not the round's were written".to_string()))
+    }
+
+    /// A round's buffer that is too short, mostly by one byte.
+    fn short_len(random: &mut Random) -> usize {
+        match random.below(4) {
+            0 => random.below(ROUND_LEN),
+            _ => ROUND_LEN - 1,
+        }
     }
 
     pub struct Judged {
@@ -51,92 +61,99 @@ mod linked {
     }
 
     impl Judged {
-        /// Opens the library's round beside the model's; also whether they agree.
+        /// Opens the library's round; the model foretells its bytes or a refusal.
         pub fn open(
             random: &mut Random,
             file: &[u8],
-            (house, bay, own): (u16, u16, Option<u8>),
-            expected: &Result<Round, Refusal>,
-        ) -> (Option<Self>, bool) {
-            let lent = file.to_vec();
-            let mut short = Lent::new(random, round_bytes() - 1);
-            let short_answer = library::open(&lent, house, bay, own, short.window());
-            let refused_short = short_answer == 17 && short.holds_only(&[]);
-            let room = round_bytes() + random.below(8);
+            (house, bay, own): (u16, u16, Option<u32>),
+            foretold: &Result<Vec<u8>, Refusal>,
+        ) -> (Option<Self>, Verdict) {
+            let room = ROUND_LEN + random.below(8);
             let mut round = Lent::new(random, room);
-            let number = library::open(&lent, house, bay, own, round.window());
-            let untouched = lent == file && round.ends_kept(round_bytes());
-            let (number_agreed, round_agreed) = match expected {
-                Err(refusal) => (number == refusal.number(), round.holds_only(&[])),
-                Ok(model) => (number == 0, round_agrees(model, round.before(), round.after())),
-            };
-            round.settle();
-            let agreed = refused_short && untouched && number_agreed && round_agreed;
-            ((number == 0).then_some(Judged { round }), agreed)
+            let mut lent = Lent::holding(random, file, file.len());
+            let number = library::open(lent.window(), house, bay, own, round.window());
+            let verdict = numbers_agree(number, answer(foretold))
+                .and_then(|()| buffer_agrees("graph", &lent, file))
+                .and_then(|()| round_agrees(&round, foretold.as_deref().unwrap_or(&[])))
+                .and_then(|()| Self::open_short(random, file, (house, bay, own)));
+            (Some(Judged { round }), verdict)
         }
 
-        /// The answer of the library, and whether all lent bytes agree.
+        /// A round's buffer that is too short is 17, whatever else is wrong.
+        fn open_short(
+            random: &mut Random,
+            file: &[u8],
+            (house, bay, own): (u16, u16, Option<u32>),
+        ) -> Verdict {
+            let len = short_len(random);
+            let mut short = Lent::new(random, len);
+            numbers_agree(library::open(file, house, bay, own, short.window()), 17)?;
+            buffer_agrees("short", &short, &[])
+        }
+
+        /// Lends the bytes of a round that no opening need have led to.
+        pub fn hand_in(random: &mut Random, bytes: &[u8]) -> Option<Self> {
+            let room = ROUND_LEN + random.below(8);
+            Some(Judged { round: Lent::holding(random, bytes, room) })
+        }
+
+        /// The model foretells the answer and the bytes of the round after it.
         pub fn deliver(
             &mut self,
             random: &mut Random,
-            message: &[u8],
-            room: usize,
-            (expected, model): (&Result<Option<Vec<u8>>, Refusal>, &Round),
-        ) -> bool {
-            let lent = message.to_vec();
+            (message, room): (&[u8], usize),
+            foretold: (&Answer, &[u8]),
+        ) -> Verdict {
+            let mut lent = Lent::holding(random, message, message.len());
             let mut reply = Lent::new(random, room);
-            if random.once_in(50) && !self.refuses_short(&lent, reply.window()) {
-                return false;
-            }
-            let number = library::deliver(self.round.window(), &lent, reply.window());
-            let kept = lent == message && self.round.ends_kept(round_bytes());
-            let agreed = match expected {
-                Err(refusal) => {
-                    let untouched = self.round.holds_only(&[]) && reply.holds_only(&[]);
-                    number == refusal.number() && untouched
-                }
-                Ok(None) => number == 0 && reply.holds_only(&[]),
-                Ok(Some(z)) => number == 256 + z.len() as u32 && reply.holds_only(z),
+            let number = library::deliver(self.round.window(), lent.window(), reply.window());
+            let (expected, front) = match foretold.0 {
+                Err(refusal) => (refusal.number(), &[][..]),
+                Ok(None) => (0, &[][..]),
+                Ok(Some(z)) => (256 + z.len() as u32, &z[..]),
             };
-            let round_agreed =
-                expected.is_err() || round_agrees(model, self.round.before(), self.round.after());
-            self.round.settle();
-            kept && agreed && round_agreed
+            numbers_agree(number, expected)?;
+            buffer_agrees("message", &lent, message)?;
+            buffer_agrees("reply", &reply, front)?;
+            round_agrees(&self.round, foretold.1)
         }
 
-        /// A round buffer that lacks a byte is 17, and nothing is written.
-        fn refuses_short(&mut self, message: &[u8], reply: &mut [u8]) -> bool {
-            let before = reply.to_vec();
-            let short = &mut self.round.window()[..round_bytes() - 1];
-            let refused = library::deliver(short, message, reply) == 17
-                && library::report(short, 0, &mut [0; 17]) == 17;
-            refused && before == reply && self.round.holds_only(&[])
+        /// A round that lacks a byte is 17 whatever it is asked, and nothing is written.
+        pub fn ask_short(&mut self, random: &mut Random, message: &[u8], bytes: &[u8]) -> Verdict {
+            let len = short_len(random);
+            let mut reply = Lent::new(random, reference::message::LONGEST);
+            let mut out = Lent::new(random, 17);
+            let short = &mut self.round.window()[..len];
+            numbers_agree(library::deliver(short, message, reply.window()), 17)?;
+            numbers_agree(library::report(short, 0, out.window()), 17)?;
+            buffer_agrees("reply", &reply, &[])?;
+            buffer_agrees("report", &out, &[])?;
+            round_agrees(&self.round, bytes)
         }
 
         pub fn report(
             &mut self,
             random: &mut Random,
-            learner: u8,
-            room: usize,
-            expected: &Result<Report, Refusal>,
-        ) -> bool {
+            (learner, room): (u8, usize),
+            foretold: (&Result<Report, Refusal>, &[u8]),
+        ) -> Verdict {
             let mut out = Lent::new(random, room);
             let number = library::report(self.round.window(), learner, out.window());
-            let agreed = match expected {
-                Err(refusal) => number == refusal.number() && out.holds_only(&[]),
-                Ok(report) => number == 0 && out.holds_only(&report.bytes()),
-            };
-            agreed && self.round.holds_only(&[])
+            let front = foretold.0.map_or(Vec::new(), Report::bytes);
+            numbers_agree(number, answer(foretold.0))?;
+            buffer_agrees("report", &out, &front)?;
+            round_agrees(&self.round, foretold.1)
         }
     }
 }
 
-/// The model runs alone until the library has rounds.
+/// Without the library the model runs alone.
 #[cfg(not(feature = "rounds"))]
 mod unlinked {
+    use super::{Answer, Verdict};
     use reference::random::Random;
     use reference::refusal::Refusal;
-    use reference::round::{Report, Round};
+    use reference::round::Report;
 
     pub enum Judged {}
 
@@ -144,29 +161,35 @@ mod unlinked {
         pub fn open(
             _random: &mut Random,
             _file: &[u8],
-            _round: (u16, u16, Option<u8>),
-            _expected: &Result<Round, Refusal>,
-        ) -> (Option<Self>, bool) {
-            (None, true)
+            _round: (u16, u16, Option<u32>),
+            _foretold: &Result<Vec<u8>, Refusal>,
+        ) -> (Option<Self>, Verdict) {
+            (None, Ok(()))
+        }
+
+        pub fn hand_in(_random: &mut Random, _bytes: &[u8]) -> Option<Self> {
+            None
         }
 
         pub fn deliver(
             &mut self,
             _random: &mut Random,
-            _message: &[u8],
-            _room: usize,
-            _expected: (&Result<Option<Vec<u8>>, Refusal>, &Round),
-        ) -> bool {
+            _message: (&[u8], usize),
+            _foretold: (&Answer, &[u8]),
+        ) -> Verdict {
+            match *self {}
+        }
+
+        pub fn ask_short(&mut self, _: &mut Random, _message: &[u8], _bytes: &[u8]) -> Verdict {
             match *self {}
         }
 
         pub fn report(
             &mut self,
             _random: &mut Random,
-            _learner: u8,
-            _room: usize,
-            _expected: &Result<Report, Refusal>,
-        ) -> bool {
+            _learner: (u8, usize),
+            _foretold: (&Result<Report, Refusal>, &[u8]),
+        ) -> Verdict {
             match *self {}
         }
     }

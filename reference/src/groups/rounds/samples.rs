@@ -1,6 +1,8 @@
 //! Document 01's sample rounds and the examples of rows 8 to 17.
 
-use super::seat::{Referee, Seat};
+use super::judged::Answer;
+use super::seat::Seat;
+use super::watched::Referee;
 use reference::graph;
 use reference::message::{self, Body, Message};
 use reference::refusal::Refusal;
@@ -32,7 +34,7 @@ struct Sample<'a> {
 }
 
 impl<'a> Sample<'a> {
-    fn open(referee: &'a mut Referee, file: &[u8], own: Option<u8>) -> Self {
+    fn open(referee: &'a mut Referee, file: &[u8], own: Option<u32>) -> Self {
         let seat = Seat::open(referee, file, (HOUSE, BAY, own)).expect("a sample round opens");
         Sample { referee, seat }
     }
@@ -44,7 +46,7 @@ impl<'a> Sample<'a> {
     }
 
     /// Delivers until the reply buffer was not one of the short ones.
-    fn deliver(&mut self, bytes: &[u8]) -> Result<Option<Vec<u8>>, Refusal> {
+    fn deliver(&mut self, bytes: &[u8]) -> Answer {
         loop {
             match self.seat.deliver(self.referee, bytes) {
                 Err(Refusal::Argument) => {}
@@ -59,10 +61,10 @@ impl<'a> Sample<'a> {
     }
 
     fn expect_report(&mut self, name: &str, report: Report) {
-        let outcome = self.seat.model.report(0);
+        let outcome = self.seat.round().report(0);
         self.expect(name, outcome, Ok(report));
         // Once more, beside the library.
-        let _ = self.seat.report(self.referee, 0);
+        self.seat.report(self.referee, 0);
     }
 }
 
@@ -85,9 +87,9 @@ fn single_acceptor(referee: &mut Referee) {
     let z2 = sample.deliver(&z1).ok().flatten().unwrap_or_default();
     sample.expect("z2 takes 75 bytes", z2.len(), 75);
     sample.expect("z2 follows z1", &z2, &vote(0, Some(z1_id), vec![z1_id]));
-    let z2_place = sample.seat.model.place_of(&sha256(&z2)).expect("z2 is held");
-    let for_learner_0 =
-        sample.seat.model.history.is_2a(z2_place) && sample.seat.model.history.in_lrns(0, z2_place);
+    let z2_place = sample.seat.round().place_of(&sha256(&z2)).expect("z2 is held");
+    let for_learner_0 = sample.seat.round().history.is_2a(z2_place)
+        && sample.seat.round().history.in_lrns(0, z2_place);
     sample.expect("z2 is a 2a for learner 0", for_learner_0, true);
     sample.expect_report("after P and z1", Report::Undecided);
     let _ = sample.deliver(&z2);
@@ -95,6 +97,11 @@ fn single_acceptor(referee: &mut Referee) {
     let old = sample.deliver(&proposal(3, 70));
     sample.expect("a proposal with round number 3", old, Ok(None));
     sample.expect_refusal("z1 again", &z1, Refusal::Known);
+    rows_8_to_17(&mut sample, p_id, z1_id);
+}
+
+/// Examples of the rows, in the round that holds P and z1.
+fn rows_8_to_17(sample: &mut Sample, p_id: Id, z1_id: Id) {
     let elsewhere = message::write(&message::proposal(4, BAY, 0, 5, 70));
     sample.expect_refusal("P with house 4", &elsewhere, Refusal::OtherBay);
     sample.expect_refusal("signer 1 under G0", &vote(1, None, vec![p_id]), Refusal::Signer);
@@ -108,7 +115,7 @@ fn single_acceptor(referee: &mut Referee) {
         &two_of_a_ballot,
         Refusal::Malformed1b,
     );
-    let no_learner = sample.seat.model.report(1);
+    let no_learner = sample.seat.round().report(1);
     sample.expect("learner 1 under G0", no_learner, Err(Refusal::Argument));
 }
 
@@ -131,7 +138,7 @@ fn until_full(referee: &mut Referee) {
         let mut sample = Sample::open(referee, &graph::write(&g0()), own);
         let mut reply = sample.deliver(&proposal(500, 1)).ok().flatten();
         for round in 1.. {
-            if sample.seat.model.held() == capacity {
+            if sample.seat.round().held() == capacity {
                 break;
             }
             let outcome = sample.deliver(&proposal(round, 1));
@@ -140,7 +147,7 @@ fn until_full(referee: &mut Referee) {
         sample.expect_refusal("a new proposal at 128", &proposal(499, 9), Refusal::Full);
         sample.expect_refusal("known before full", &proposal(1, 1), Refusal::Known);
         while let Some(returning) = reply {
-            if sample.seat.model.held() == 128 {
+            if sample.seat.round().held() == 128 {
                 sample.expect_refusal("an own message at 128", &returning, Refusal::Full);
                 break;
             }

@@ -2,25 +2,25 @@
 //! reorders, loses, repeats and damages.
 
 use super::agreement::{self, Met};
-use super::seat::{Referee, Seat};
+use super::forgery::forge;
+use super::judged::Answer;
+use super::liar::Liar;
+use super::seat::Seat;
+use super::tampered;
+use super::watched::{Referee, Watched};
 use reference::damage;
 use reference::graph::{self, LearnerGraph};
+use reference::handed_in;
 use reference::message::{self, Body, Message};
 use reference::random::Random;
 use reference::refusal::Refusal;
-use reference::round::{self, Round, CAPACITY};
+use reference::round::{Round, CAPACITY};
 use reference::sha256::{sha256, Id};
 use reference::sites::{accepted_graph, g0, g1, majority_of_three};
 use std::collections::HashMap;
 
 /// More than there are acceptors.
 const MANY: usize = 100;
-
-/// An acceptor that lies: it keeps several rounds and speaks from any of them.
-struct Liar {
-    number: u8,
-    branches: Vec<Round>,
-}
 
 /// How the network of one site behaves, each out of 100.
 struct Network {
@@ -38,7 +38,6 @@ struct Network {
 
 struct Site {
     graph: LearnerGraph,
-    file: Vec<u8>,
     house: u16,
     bay: u16,
     network: Network,
@@ -79,7 +78,7 @@ impl Site {
         let file = graph::write(&graph);
         let random = &mut referee.random;
         let (house, bay) = (random.below(3) as u16, random.below(3) as u16);
-        let mut numbers: Vec<u8> = (0..graph.acceptors as u8).collect();
+        let mut numbers: Vec<u32> = (0..graph.acceptors as u32).collect();
         random.shuffle(&mut numbers);
         let lying = (*random.pick(&[0, 0, 1, 1, 2])).min(numbers.len());
         let network = random_network(random);
@@ -87,16 +86,16 @@ impl Site {
         let liars = numbers
             .split_off(numbers.len() - lying)
             .into_iter()
-            .map(|number| Liar { number, branches: Vec::new() })
+            .map(|number| Liar::new(&file, (house, bay, number)))
             .collect();
         let owns = numbers.into_iter().map(Some).chain(std::iter::repeat_n(None, listening));
         let seats: Vec<Seat> = owns
             .map(|own| Seat::open(referee, &file, (house, bay, own)).expect("an accepted graph"))
             .collect();
+        referee.rounds += seats.len() as u64;
         let queues = vec![Vec::new(); seats.len()];
         Site {
             graph,
-            file,
             house,
             bay,
             network,
@@ -184,14 +183,9 @@ impl Site {
         self.pass_on(referee, seat, outcome);
     }
 
-    fn pass_on(
-        &mut self,
-        referee: &mut Referee,
-        seat: usize,
-        outcome: Result<Option<Vec<u8>>, Refusal>,
-    ) {
+    fn pass_on(&mut self, referee: &mut Referee, seat: usize, outcome: Answer) {
         if let Ok(Some(reply)) = outcome {
-            let repeats = repeats_a_vote(&self.seats[seat].model);
+            let repeats = repeats_a_vote(self.seats[seat].round());
             if !repeats || referee.random.below(100) < self.network.repeated {
                 self.send(&mut referee.random, reply);
             }
@@ -202,7 +196,7 @@ impl Site {
     /// lacks, and gives the replies.
     fn catch_up(&mut self, referee: &mut Referee, seat: usize, bytes: &[u8]) -> Vec<Vec<u8>> {
         let mut replies = Vec::new();
-        if self.seats[seat].model.held() >= CAPACITY - 1 {
+        if self.seats[seat].round().held() >= CAPACITY - 1 {
             return replies;
         }
         if let Ok(Body::Acceptor { references, .. }) = message::read(bytes).map(|read| read.body) {
@@ -267,46 +261,19 @@ impl Site {
     /// That many of the rounds that vote, or all of them.
     fn some_voters(&self, random: &mut Random, count: usize) -> Vec<usize> {
         let mut voters: Vec<usize> =
-            (0..self.seats.len()).filter(|seat| self.seats[*seat].model.own.is_some()).collect();
+            (0..self.seats.len()).filter(|seat| self.seats[*seat].round().own.is_some()).collect();
         random.shuffle(&mut voters);
         voters.truncate(count);
         voters
     }
 
-    /// A liar forgets, or forks, or lets one of its rounds take some messages.
     fn lie(&mut self, random: &mut Random) {
         if self.liars.is_empty() || self.sent.is_empty() {
             return;
         }
-        let which = random.below(self.liars.len());
-        let liar = &mut self.liars[which];
-        if liar.branches.is_empty() || random.once_in(8) {
-            let branch = if liar.branches.is_empty() || random.once_in(2) {
-                round::open(&self.file, self.house, self.bay, Some(liar.number))
-                    .expect("an accepted graph")
-            } else {
-                random.pick(&liar.branches).clone()
-            };
-            if liar.branches.len() == 3 {
-                liar.branches.remove(random.below(3));
-            }
-            liar.branches.push(branch);
-        }
-        let branch = random.below(liar.branches.len());
-        let branch = &mut liar.branches[branch];
-        let mut replies = Vec::new();
-        for _ in 0..random.between(1, 12) {
-            let message = random.pick(&self.sent);
-            if let Ok(Some(reply)) = branch.deliver(message, message::LONGEST) {
-                let returned = branch.deliver(&reply, message::LONGEST);
-                replies.push(reply);
-                if let Ok(Some(next)) = returned {
-                    replies.push(next);
-                }
-            }
-        }
-        for reply in replies {
-            self.send(random, reply);
+        let liar = random.below(self.liars.len());
+        for message in self.liars[liar].speak(random, &self.sent) {
+            self.send(random, message);
         }
     }
 
@@ -316,7 +283,7 @@ impl Site {
             0 => Some(random.between(self.graph.acceptors, 255) as u8),
             _ if self.network.forged => Some(random.below(self.graph.acceptors) as u8),
             _ if self.liars.is_empty() => None,
-            _ => Some(random.pick(&self.liars).number),
+            _ => Some(random.pick(&self.liars).number()),
         }
     }
 
@@ -326,34 +293,9 @@ impl Site {
         let Some(signer) = self.forger(random) else {
             return;
         };
-        let held = self.seats[seat].model.history.messages();
-        if held.is_empty() {
+        let Some(bytes) = forge(random, self.seats[seat].round(), signer) else {
             return;
-        }
-        let mut references: Vec<Id> =
-            (0..random.between(1, 4)).map(|_| random.pick(held).id).collect();
-        let own: Vec<Id> = held
-            .iter()
-            .filter(|message| message.signer == signer)
-            .map(|message| message.id)
-            .collect();
-        let previous = match random.below(8) {
-            0 => Some(random.pick(held).id),
-            1 => Some(*random.pick(&references)),
-            2..=5 if !own.is_empty() => Some(*random.pick(&own)),
-            _ => None,
         };
-        if random.below(8) > 0 {
-            references.extend(previous);
-        }
-        if random.once_in(30) {
-            references.push(random.id());
-        }
-        references.sort();
-        references.dedup();
-        let body = Body::Acceptor { previous, references };
-        let message = Message { house: self.house, bay: self.bay, signer, body };
-        let bytes = message::write(&message);
         let outcome = self.seats[seat].deliver(referee, &bytes);
         if outcome.is_ok() {
             self.send(&mut referee.random, bytes);
@@ -384,7 +326,7 @@ impl Site {
     fn flood(&mut self, referee: &mut Referee, seat: usize) {
         let target = referee.random.between(100, CAPACITY);
         for round in 1..=200 {
-            if self.seats[seat].model.held() >= target {
+            if self.seats[seat].round().held() >= target {
                 return;
             }
             let ballot = (u64::from(round * 7 % 40_u32) << 32) | u64::from(round % 3);
@@ -397,7 +339,7 @@ impl Site {
             if self.liars.is_empty() {
                 continue;
             }
-            let signer = referee.random.pick(&self.liars).number;
+            let signer = referee.random.pick(&self.liars).number();
             let body = Body::Acceptor { previous: None, references };
             let vote = Message { house: self.house, bay: self.bay, signer, body };
             let outcome = self.seats[seat].deliver(referee, &message::write(&vote));
@@ -411,7 +353,21 @@ impl Site {
             0 => referee.random.between(learners, 255),
             _ => referee.random.below(learners),
         };
-        let _ = self.seats[seat].report(referee, learner as u8);
+        self.seats[seat].report(referee, learner as u8);
+    }
+
+    /// Some calls on a copy of a seat's round, with bytes that are not its own.
+    fn tamper(&mut self, referee: &mut Referee, seat: usize) {
+        let running = &self.seats[seat];
+        if referee.random.once_in(10) {
+            let taken = handed_in::take(running.bytes());
+            referee.tally.check(taken.as_ref() == Ok(running.round()), || {
+                "the model does not take its own round as it is".to_string()
+            });
+        }
+        if !self.sent.is_empty() {
+            tampered::run(referee, running.bytes(), &self.sent);
+        }
     }
 
     fn step(&mut self, referee: &mut Referee) {
@@ -424,6 +380,7 @@ impl Site {
             13..=18 => self.craft(referee, seat),
             19..=23 => self.disturb(referee, seat),
             24..=28 => self.report(referee, seat),
+            29..=32 => self.tamper(referee, seat),
             _ => self.deliver(referee, seat),
         }
     }
@@ -469,7 +426,7 @@ pub fn run_site(referee: &mut Referee, met: &mut Met) {
     }
     for seat in &mut site.seats {
         for learner in 0..site.graph.learners() {
-            let _ = seat.report(referee, learner as u8);
+            seat.report(referee, learner as u8);
         }
     }
     agreement::check(referee, met, &site.graph, &site.seats);
@@ -480,9 +437,10 @@ pub fn run_opening(referee: &mut Referee) {
     let file = damage::graph_file(&mut referee.random);
     let own = match referee.random.below(3) {
         0 => None,
-        1 => Some(referee.random.below(4) as u8),
-        _ => Some(referee.random.byte()),
+        1 => Some(referee.random.below(4) as u32),
+        // 256 would be none.
+        _ => Some(*referee.random.pick(&[4, 15, 16, 17, 254, 255, 257, 65_536, u32::MAX])),
     };
-    let house = referee.random.word() as u16;
-    let _ = Seat::open(referee, &file, (house, 12, own));
+    let (house, bay) = (referee.random.word() as u16, referee.random.word() as u16);
+    let _ = Watched::open(referee, &file, (house, bay, own));
 }

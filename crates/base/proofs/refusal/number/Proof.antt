@@ -3,8 +3,6 @@ use Rattle.base.specs.Refusals.{numberOf}
 use borrow.Author.Needs.{needs}
 use Rattle.base.proofs.refusal.number.Statement.{statement}
 use Rattle.base.proofs.refusal.number.Tie as tie
-use Rattle.base.proofs.refusal.number.Reads as reads
-use Rattle.base.proofs.refusal.number.Lts as lts
 
 enum-told : tie.Need-enum-told
 enum-told c = search needs

@@ -3,10 +3,6 @@ use Rattle.graph.specs.File.{answerNumber}
 use borrow.Author.Needs.{needs}
 use Rattle.capi.proofs.graph_calls.hpaxos_check_graph.Statement.{statement}
 use Rattle.capi.proofs.graph_calls.hpaxos_check_graph.Tie as tie
-use Rattle.capi.proofs.graph_calls.hpaxos_check_graph.Reads as reads
-use Rattle.capi.proofs.graph_calls.hpaxos_check_graph.Lts as lts
-use Rattle.graph.proofs.answer_number.Reads as answer-number-reads
-use Rattle.graph.proofs.check.Reads as check-reads
 
 check-requires : tie.Need-check-requires
 check-requires c κs = search needs

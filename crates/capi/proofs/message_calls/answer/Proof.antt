@@ -3,9 +3,6 @@ use Rattle.capi.specs.Message.{answerOf}
 use borrow.Author.Needs.{needs}
 use Rattle.capi.proofs.message_calls.answer.Statement.{statement}
 use Rattle.capi.proofs.message_calls.answer.Tie as tie
-use Rattle.capi.proofs.message_calls.answer.Reads as reads
-use Rattle.capi.proofs.message_calls.answer.Lts as lts
-use Rattle.base.proofs.refusal.number.Reads as number-reads
 
 enum-told : tie.Need-enum-told
 enum-told c = search needs

@@ -1,19 +1,12 @@
-use mathlib.Core.Path.{_≡_, ap, sym, _∙_}
+use mathlib.Core.Path.{ap, sym, _∙_}
 use lib.ListN.{length}
 use borrow.Author.Tests.{lt-ltb, le-ltb}
 use Rattle.message.specs.declared.Reading.{Reading}
 use Rattle.message.proofs.Checks.{of-acceptor}
 use Rattle.capi.specs.Message.{fieldsOf, readNumber}
 use borrow.Author.Needs.{needs}
-use native.Mathlib.Omega.{arith}
 use Rattle.capi.proofs.message_calls.hpaxos_read_message.Statement.{statement}
 use Rattle.capi.proofs.message_calls.hpaxos_read_message.Tie as tie
-use Rattle.capi.proofs.message_calls.hpaxos_read_message.Reads as reads
-use Rattle.capi.proofs.message_calls.hpaxos_read_message.Lts as lts
-use Rattle.base.proofs.refusal.number.Reads as number-reads
-use Rattle.capi.proofs.message_calls.put_acceptor.Reads as put-acceptor-reads
-use Rattle.capi.proofs.message_calls.put_row.Reads as put-row-reads
-use Rattle.message.proofs.read.Reads as read-reads
 
 number-requires : tie.Need-number-requires
 number-requires c κs = search needs

@@ -1,13 +1,8 @@
 use mathlib.Core.Path.{ap, _∙_}
 use Rattle.capi.specs.Message.{answerOf}
 use borrow.Author.Needs.{needs}
-use native.Mathlib.Omega.{arith}
 use Rattle.capi.proofs.message_calls.hpaxos_reference.Statement.{statement}
 use Rattle.capi.proofs.message_calls.hpaxos_reference.Tie as tie
-use Rattle.capi.proofs.message_calls.hpaxos_reference.Reads as reads
-use Rattle.capi.proofs.message_calls.hpaxos_reference.Lts as lts
-use Rattle.capi.proofs.message_calls.answer.Reads as answer-reads
-use Rattle.message.proofs.copy_reference.Reads as copy-reference-reads
 
 copy-reference-requires : tie.Need-copy-reference-requires
 copy-reference-requires c κs = search needs

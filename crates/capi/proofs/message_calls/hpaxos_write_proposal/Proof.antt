@@ -1,13 +1,8 @@
 use mathlib.Core.Path.{ap, _∙_}
 use Rattle.capi.specs.Message.{answerOf}
 use borrow.Author.Needs.{needs}
-use native.Mathlib.Omega.{arith}
 use Rattle.capi.proofs.message_calls.hpaxos_write_proposal.Statement.{statement}
 use Rattle.capi.proofs.message_calls.hpaxos_write_proposal.Tie as tie
-use Rattle.capi.proofs.message_calls.hpaxos_write_proposal.Reads as reads
-use Rattle.capi.proofs.message_calls.hpaxos_write_proposal.Lts as lts
-use Rattle.capi.proofs.message_calls.answer.Reads as answer-reads
-use Rattle.message.proofs.write_proposal.Reads as write-proposal-reads
 
 write-proposal-requires : tie.Need-write-proposal-requires
 write-proposal-requires c κs = search needs

@@ -1,6 +1,5 @@
-use mathlib.Core.Path.{_≡_, ap, sym, _∙_}
+use mathlib.Core.Path.{ap, sym, _∙_}
 use mathlib.Core.Bool.{Bool}
-use mathlib.Core.List.{List}
 use Prim.Native.Nat.{ℕ}
 use Rattle.base.specs.Tests.{pick}
 use Rattle.base.specs.Bytes.{part}
@@ -8,13 +7,8 @@ use Rattle.message.specs.Layout.{marker}
 use Rattle.message.specs.Writer.{fronted}
 use Rattle.capi.specs.Message.{row, noId}
 use borrow.Author.Needs.{needs}
-use native.Mathlib.Omega.{arith}
 use Rattle.capi.proofs.message_calls.put_acceptor.Statement.{statement}
 use Rattle.capi.proofs.message_calls.put_acceptor.Tie as tie
-use Rattle.capi.proofs.message_calls.put_acceptor.Reads as reads
-use Rattle.capi.proofs.message_calls.put_acceptor.Lts as lts
-use Rattle.capi.proofs.message_calls.put_row.Reads as put-row-reads
-use Rattle.message.proofs.layout.marker_of.Reads as marker-of-reads
 
 cast-count : tie.Need-cast-count
 cast-count c = search needs

@@ -1,19 +1,12 @@
-use mathlib.Core.Path.{_≡_, refl}
-use mathlib.Core.List.{List, [], _∷_, _++_}
-use Prim.Native.Nat.{ℕ}
-use lib.ListN.{length, length-append}
+use mathlib.Core.Path.{refl}
+use mathlib.Core.List.{[], _∷_, _++_}
+use lib.ListN.{length-append}
 use Rattle.base.specs.Bytes.{bytes}
 use Rattle.base.proofs.Bytes.{more, more-at}
 use borrow.Author.Needs.{needs}
 use native.Mathlib.Omega.{arith}
 use Rattle.capi.proofs.message_calls.put_row.Statement.{statement}
 use Rattle.capi.proofs.message_calls.put_row.Tie as tie
-use Rattle.capi.proofs.message_calls.put_row.Reads as reads
-use Rattle.capi.proofs.message_calls.put_row.Lts as lts
-use Rattle.base.proofs.put16.Reads as put16-reads
-use Rattle.base.proofs.put64.Reads as put64-reads
-use Rattle.base.proofs.put8.Reads as put8-reads
-use Rattle.base.proofs.put_all.Reads as put-all-reads
 
 put8-requires : tie.Need-put8-requires
 put8-requires c κs = search needs

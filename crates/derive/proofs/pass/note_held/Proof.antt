@@ -1,30 +1,18 @@
-use mathlib.Core.Path.{_≡_, refl, ap, ap₂, sym, _∙_}
-use mathlib.Core.Bool.{Bool, true, false, not, _&&_, _||_}
-use Prim.Native.Nat.{ℕ, suc, _≤_, _<_, _-_, _+_, _*_, _/_, _^_, max}
-use lib.ListN.{length, getD, take}
-use lib.Dec.{eqb, ltb}
-use Rattle.base.specs.Tests.{pick, any, below}
-use Rattle.base.specs.Sets.{has}
-use Rattle.derive.specs.PlaceSets.{inSet, meets}
+use Prim.Native.Nat.{ℕ, _-_, _+_, _*_}
+use lib.ListN.{getD, take, drop}
 use borrow.Author.Tests.{eq-eqb, ne-eqb}
 use mathlib.Core.Path.{subst}
 use mathlib.Core.List.{List}
-use lib.ListN.{drop}
 use Rattle.base.specs.Tests.{_∈_}
 use Rattle.graph.specs.Held.{heldGraph}
 use Rattle.protocol.proofs.Growth.{length-tabulate}
-use Rattle.derive.specs.Arrays.{idIn}
+use Rattle.scan.specs.Arrays.{idIn}
 use Rattle.derive.specs.Records.{namedIn, recordIn, tableIn}
 use Rattle.derive.proofs.Passing.{entry-below, lent-references, offer-noted, held-candidate, held-noted}
 use borrow.Author.Needs.{needs}
 use native.Mathlib.Omega.{arith}
 use Rattle.derive.proofs.pass.note_held.Statement.{statement}
 use Rattle.derive.proofs.pass.note_held.Tie as tie
-use Rattle.derive.proofs.pass.note_held.Reads as reads
-use Rattle.derive.proofs.pass.note_held.Lts as lts
-use Rattle.base.proofs.size.Reads as size-reads
-use Rattle.derive.proofs.sets.with_place.Reads as with-place-reads
-use Rattle.derive.proofs.step.step.Reads as step-reads
 
 shared-slice-read-if1 : tie.Need-shared-slice-read-if1
 shared-slice-read-if1 c = search needs

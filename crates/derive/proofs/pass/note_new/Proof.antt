@@ -1,12 +1,5 @@
-use mathlib.Core.Path.{_≡_, refl, ap, ap₂, sym, _∙_}
-use mathlib.Core.Bool.{Bool, true, false, not, _&&_, _||_}
-use Prim.Native.Nat.{ℕ, suc, _≤_, _<_, _-_, _+_, _*_, _/_, _^_, max}
-use lib.ListN.{length, getD, take}
-use lib.Dec.{eqb, ltb}
-use Rattle.base.specs.Tests.{pick, any, below}
-use Rattle.base.specs.Sets.{has}
-use Rattle.derive.specs.PlaceSets.{inSet, meets}
-use mathlib.Core.Path.{subst}
+use mathlib.Core.Path.{_≡_, sym, subst}
+use Prim.Native.Nat.{ℕ, _<_, _-_}
 use mathlib.Core.Logic.{_⊎_}
 use Rattle.graph.specs.Held.{heldGraph}
 use Rattle.protocol.specs.Table.{says, places, nodeBy, tree}
@@ -19,11 +12,6 @@ use borrow.Author.Needs.{needs}
 use native.Mathlib.Omega.{arith}
 use Rattle.derive.proofs.pass.note_new.Statement.{statement}
 use Rattle.derive.proofs.pass.note_new.Tie as tie
-use Rattle.derive.proofs.pass.note_new.Reads as reads
-use Rattle.derive.proofs.pass.note_new.Lts as lts
-use Rattle.base.proofs.size.Reads as size-reads
-use Rattle.derive.proofs.names.name_of.Reads as name-of-reads
-use Rattle.derive.proofs.step.step.Reads as step-reads
 
 name-of-requires : tie.Need-name-of-requires
 name-of-requires c κs = search needs

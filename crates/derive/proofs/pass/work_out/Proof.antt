@@ -1,16 +1,9 @@
-use mathlib.Core.Path.{_≡_, refl, ap, ap₂, sym, _∙_}
-use mathlib.Core.Bool.{Bool, true, false, not, _&&_, _||_}
-use Prim.Native.Nat.{ℕ, suc, _≤_, _<_, _-_, _+_, _*_, _/_, _^_, max}
-use lib.ListN.{length, getD, take}
-use lib.Dec.{eqb, ltb}
-use Rattle.base.specs.Tests.{pick, any, below}
-use Rattle.base.specs.Sets.{has}
-use Rattle.derive.specs.PlaceSets.{inSet, meets}
-use mathlib.Core.Path.{subst}
+use mathlib.Core.Path.{_≡_, refl, _∙_, subst}
+use Prim.Native.Nat.{ℕ, _≤_, _-_}
 use lib.ListN.{length-set}
 use Rattle.graph.specs.Held.{heldGraph}
 use Rattle.protocol.specs.Table.{tabulate}
-use Rattle.derive.specs.Arrays.{Whole}
+use Rattle.scan.specs.Arrays.{Whole}
 use Rattle.derive.specs.Records.{tableIn}
 use Rattle.derive.specs.Notes.{Known}
 use Rattle.derive.proofs.Growing.{known-none}
@@ -19,10 +12,6 @@ use borrow.Author.Needs.{needs}
 use native.Mathlib.Omega.{arith}
 use Rattle.derive.proofs.pass.work_out.Statement.{statement}
 use Rattle.derive.proofs.pass.work_out.Tie as tie
-use Rattle.derive.proofs.pass.work_out.Reads as reads
-use Rattle.derive.proofs.pass.work_out.Lts as lts
-use Rattle.derive.proofs.names.names_of.Reads as names-of-reads
-use Rattle.derive.proofs.pass.note_held.Reads as note-held-reads
 
 abbrev Inv-loop : tie.InvT-loop
 Inv-loop lists masks ids kinds signers ballots previous counts references acceptors l n names low₀ high₀ forklow₀ forkhigh₀ tops₀ learners₀ fresh₀ forms₀ p₀ low high forklow forkhigh tops learners fresh forms p = (p ≤ n) × ((Whole low × (Whole high × (Whole forklow × (Whole forkhigh × (Whole tops × (Whole learners × (Whole fresh × Whole forms))))))) × Known (heldGraph acceptors l lists masks) (tableIn ids kinds signers ballots previous counts references p) kinds signers low high forklow forkhigh tops learners fresh forms)

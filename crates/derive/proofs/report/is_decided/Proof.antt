@@ -1,12 +1,6 @@
-use mathlib.Core.Path.{_≡_, refl, ap, ap₂, sym, _∙_}
-use mathlib.Core.Bool.{Bool, true, false, not, _&&_, _||_}
-use Prim.Native.Nat.{ℕ, suc, _≤_, _<_, _-_, _+_, _*_, _/_, _^_, max}
-use lib.ListN.{length, getD, take}
-use lib.Dec.{eqb, ltb}
-use Rattle.base.specs.Tests.{pick, any, below}
+use mathlib.Core.Path.{_∙_}
+use Prim.Native.Nat.{_-_}
 use Rattle.base.specs.Sets.{has}
-use Rattle.derive.specs.PlaceSets.{inSet, meets}
-use Rattle.graph.specs.LearnerGraph.{isQuorum}
 use Rattle.graph.specs.Held.{heldGraph}
 use Rattle.derive.specs.Deciding.{votersFor}
 use Rattle.graph.proofs.LearnerGraph.{quorum-cong}
@@ -14,10 +8,6 @@ use borrow.Author.Needs.{needs}
 use native.Mathlib.Omega.{arith}
 use Rattle.derive.proofs.report.is_decided.Statement.{statement}
 use Rattle.derive.proofs.report.is_decided.Tie as tie
-use Rattle.derive.proofs.report.is_decided.Reads as reads
-use Rattle.derive.proofs.report.is_decided.Lts as lts
-use Rattle.derive.proofs.report.voters.Reads as voters-reads
-use Rattle.graph.proofs.lists.is_quorum.Reads as is-quorum-reads
 
 voters-requires : tie.Need-voters-requires
 voters-requires c κs = search needs

@@ -1,23 +1,15 @@
-use mathlib.Core.Path.{_≡_, refl, ap, ap₂, sym, _∙_}
-use mathlib.Core.Bool.{Bool, true, false, not, _&&_, _||_}
-use Prim.Native.Nat.{ℕ, suc, _≤_, _<_, _-_, _+_, _*_, _/_, _^_, max}
-use lib.ListN.{length, getD, take}
-use lib.Dec.{eqb, ltb}
-use Rattle.base.specs.Tests.{pick, any, below}
-use Rattle.base.specs.Sets.{has}
-use Rattle.derive.specs.PlaceSets.{inSet, meets}
+use mathlib.Core.Path.{ap, ap₂, sym, _∙_}
+use mathlib.Core.Bool.{Bool, not, _&&_, _||_}
+use Prim.Native.Nat.{ℕ, _-_}
+use lib.ListN.{getD}
+use lib.Dec.{eqb}
+use Rattle.base.specs.Ballots.{valueOf}
 use Rattle.graph.specs.LearnerGraph.{isQuorum}
 use Rattle.graph.specs.Held.{heldGraph}
-use Rattle.derive.specs.Deciding.{isKnown2a, votersFor}
-use Rattle.protocol.specs.Message.{valueOf}
+use Rattle.derive.specs.Deciding.{votersFor}
 use borrow.Author.Needs.{needs}
-use native.Mathlib.Omega.{arith}
 use Rattle.derive.proofs.report.is_deciding.Statement.{statement}
 use Rattle.derive.proofs.report.is_deciding.Tie as tie
-use Rattle.derive.proofs.report.is_deciding.Reads as reads
-use Rattle.derive.proofs.report.is_deciding.Lts as lts
-use Rattle.derive.proofs.learners.value.Reads as value-reads
-use Rattle.derive.proofs.report.is_decided.Reads as is-decided-reads
 
 shared-slice-read-if1 : tie.Need-shared-slice-read-if1
 shared-slice-read-if1 c = search needs

@@ -1,12 +1,7 @@
 use mathlib.Core.Path.{_≡_, refl, ap, ap₂, sym, _∙_}
-use mathlib.Core.Bool.{Bool, true, false, not, _&&_, _||_}
-use Prim.Native.Nat.{ℕ, suc, _≤_, _<_, _-_, _+_, _*_, _/_, _^_, max}
-use lib.ListN.{length, getD, take}
-use lib.Dec.{eqb, ltb}
-use Rattle.base.specs.Tests.{pick, any, below}
-use Rattle.base.specs.Sets.{has}
-use Rattle.derive.specs.PlaceSets.{inSet, meets}
-use Rattle.graph.specs.LearnerGraph.{isQuorum}
+use mathlib.Core.Bool.{Bool}
+use Prim.Native.Nat.{ℕ, _≤_, _-_}
+use lib.ListN.{getD}
 use Rattle.graph.specs.Held.{heldGraph}
 use Rattle.derive.specs.Deciding.{isDeciding, lowered, leastOf}
 use native.Mathlib.Numerals.{add-one}
@@ -15,10 +10,6 @@ use borrow.Author.Needs.{needs}
 use native.Mathlib.Omega.{arith}
 use Rattle.derive.proofs.report.least_deciding.Statement.{statement}
 use Rattle.derive.proofs.report.least_deciding.Tie as tie
-use Rattle.derive.proofs.report.least_deciding.Reads as reads
-use Rattle.derive.proofs.report.least_deciding.Lts as lts
-use Rattle.derive.proofs.report.is_deciding.Reads as is-deciding-reads
-use Rattle.derive.proofs.report.lower.Reads as lower-reads
 
 abbrev Inv-loop : tie.InvT-loop
 Inv-loop lists masks known forms learners tops signers acceptors n a other v least₀ j₀ least j = (j ≤ n) × ((m : ℕ) → least ≡ leastOf (isDeciding (heldGraph acceptors m lists masks) known forms learners tops signers n a other v) (λ j. getD tops j 0) j)

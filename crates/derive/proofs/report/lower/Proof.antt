@@ -1,19 +1,10 @@
-use mathlib.Core.Path.{_≡_, refl, ap, ap₂, sym, _∙_}
-use mathlib.Core.Bool.{Bool, true, false, not, _&&_, _||_}
-use Prim.Native.Nat.{ℕ, suc, _≤_, _<_, _-_, _+_, _*_, _/_, _^_, max}
-use lib.ListN.{length, getD, take}
-use lib.Dec.{eqb, ltb}
-use Rattle.base.specs.Tests.{pick, any, below}
-use Rattle.base.specs.Sets.{has}
-use Rattle.derive.specs.PlaceSets.{inSet, meets}
+use mathlib.Core.Path.{ap, sym}
+use mathlib.Core.Bool.{Bool, true}
+use Prim.Native.Nat.{_-_}
+use Rattle.base.specs.Tests.{pick}
 use Rattle.derive.specs.Deciding.{lowered}
-use Rattle.derive.specs.declared.Least.{Least}
-use borrow.Author.Needs.{needs}
-use native.Mathlib.Omega.{arith}
 use Rattle.derive.proofs.report.lower.Statement.{statement}
 use Rattle.derive.proofs.report.lower.Tie as tie
-use Rattle.derive.proofs.report.lower.Reads as reads
-use Rattle.derive.proofs.report.lower.Lts as lts
 
 returns : tie.Need-returns
 unfolding lowered

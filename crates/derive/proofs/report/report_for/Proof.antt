@@ -1,11 +1,4 @@
-use mathlib.Core.Path.{_≡_, refl, ap, ap₂, sym, _∙_}
-use mathlib.Core.Bool.{Bool, true, false, not, _&&_, _||_}
-use Prim.Native.Nat.{ℕ, suc, _≤_, _<_, _-_, _+_, _*_, _/_, _^_, max}
-use lib.ListN.{length, getD, take}
-use lib.Dec.{eqb, ltb}
-use Rattle.base.specs.Tests.{pick, any, below}
-use Rattle.base.specs.Sets.{has}
-use Rattle.derive.specs.PlaceSets.{inSet, meets}
+use Prim.Native.Nat.{_-_}
 use borrow.Author.Tests.{not-true, not-false}
 use Rattle.graph.specs.Held.{heldGraph}
 use Rattle.derive.proofs.Verdicts.{undecided-told, split-told, decided-told}
@@ -13,10 +6,6 @@ use borrow.Author.Needs.{needs}
 use native.Mathlib.Omega.{arith}
 use Rattle.derive.proofs.report.report_for.Statement.{statement}
 use Rattle.derive.proofs.report.report_for.Tie as tie
-use Rattle.derive.proofs.report.report_for.Reads as reads
-use Rattle.derive.proofs.report.report_for.Lts as lts
-use Rattle.derive.proofs.learners.value.Reads as value-reads
-use Rattle.derive.proofs.report.least_deciding.Reads as least-deciding-reads
 
 least-deciding-requires : tie.Need-least-deciding-requires
 least-deciding-requires c κs = let p = c .before .before .before .before .before .before .before .before .before .before .before .before .before .pre in let few = p .1 .0 in let la = p .0 in (p .1 .1 .0, (p .1 .1 .1 .0, (omega arith, (p .1 .1 .1 .1 .0, p .1 .1 .1 .1 .1))))

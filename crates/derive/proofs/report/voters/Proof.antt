@@ -1,22 +1,17 @@
-use mathlib.Core.Path.{_≡_, refl, ap, ap₂, sym, _∙_}
-use mathlib.Core.Bool.{Bool, true, false, not, _&&_, _||_}
-use Prim.Native.Nat.{ℕ, suc, _≤_, _<_, _-_, _+_, _*_, _/_, _^_, max}
-use lib.ListN.{length, getD, take}
-use lib.Dec.{eqb, ltb}
-use Rattle.base.specs.Tests.{pick, any, below}
+use mathlib.Core.Path.{_≡_, _∙_}
+use mathlib.Core.Bool.{_&&_}
+use Prim.Native.Nat.{ℕ, _≤_, _<_, _-_}
+use lib.ListN.{getD}
+use lib.Dec.{eqb}
+use Rattle.base.specs.Tests.{any, below}
 use Rattle.base.specs.Sets.{has}
-use Rattle.derive.specs.PlaceSets.{inSet, meets}
-use Rattle.derive.proofs.Loops.{put-again, any-done}
-use Rattle.derive.proofs.Membership.{has-zero}
+use Rattle.scan.proofs.Loops.{put-again, any-done}
+use Rattle.scan.proofs.Membership.{has-zero}
 use Rattle.derive.specs.Deciding.{isVoter}
 use borrow.Author.Needs.{needs}
 use native.Mathlib.Omega.{arith}
 use Rattle.derive.proofs.report.voters.Statement.{statement}
 use Rattle.derive.proofs.report.voters.Tie as tie
-use Rattle.derive.proofs.report.voters.Reads as reads
-use Rattle.derive.proofs.report.voters.Lts as lts
-use Rattle.derive.proofs.report.is_voter.Reads as is-voter-reads
-use Rattle.derive.proofs.sets.with_acceptor.Reads as with-acceptor-reads
 
 abbrev Inv-loop : tie.InvT-loop
 Inv-loop known forms learners tops signers n a x mask₀ j₀ mask j = (j ≤ n) × ((p : ℕ) → p < 32 → has mask p ≡ any (λ j. isVoter known forms learners tops a x j && eqb (getD signers j 0) p) (below j))

@@ -1,32 +1,14 @@
-use mathlib.Core.Path.{_≡_, refl, ap, ap₂, sym, _∙_}
-use mathlib.Core.Bool.{Bool, true, false, not, _&&_, _||_}
-use Prim.Native.Nat.{ℕ, suc, _≤_, _<_, _-_, _+_, _*_, _/_, _^_, max}
-use lib.ListN.{length, getD, take}
-use lib.Dec.{eqb, ltb}
-use Rattle.base.specs.Tests.{pick, any, below}
+use mathlib.Core.Path.{ap, _∙_}
+use mathlib.Core.Bool.{Bool, _&&_, _||_}
+use Prim.Native.Nat.{_-_}
+use lib.Dec.{eqb}
 use Rattle.base.specs.Sets.{has}
-use Rattle.derive.specs.PlaceSets.{inSet, meets}
 use Rattle.graph.specs.Held.{heldGraph}
 use Rattle.derive.proofs.Working.{told}
 use borrow.Author.Needs.{needs}
 use native.Mathlib.Omega.{arith}
 use Rattle.derive.proofs.step.step.Statement.{statement}
 use Rattle.derive.proofs.step.step.Tie as tie
-use Rattle.derive.proofs.step.step.Reads as reads
-use Rattle.derive.proofs.step.step.Lts as lts
-use Rattle.derive.proofs.beneath.is_crowded.Reads as is-crowded-reads
-use Rattle.derive.proofs.beneath.is_grounded.Reads as is-grounded-reads
-use Rattle.derive.proofs.beneath.under.Reads as under-reads
-use Rattle.derive.proofs.forks.caught_in.Reads as caught-in-reads
-use Rattle.derive.proofs.forks.forking.Reads as forking-reads
-use Rattle.derive.proofs.learners.fresh_for.Reads as fresh-for-reads
-use Rattle.derive.proofs.learners.learners_for.Reads as learners-for-reads
-use Rattle.derive.proofs.learners.opposing.Reads as opposing-reads
-use Rattle.derive.proofs.learners.value.Reads as value-reads
-use Rattle.derive.proofs.sets.meet.Reads as meet-reads
-use Rattle.derive.proofs.sets.with_acceptor.Reads as with-acceptor-reads
-use Rattle.derive.proofs.step.count_if.Reads as count-if-reads
-use Rattle.derive.proofs.step.form_of.Reads as form-of-reads
 
 under-requires : tie.Need-under-requires
 under-requires c κs = search needs

@@ -8,9 +8,9 @@ use Rattle.round.specs.declared.Delivered.{Delivered}
 use Rattle.round.specs.Held.{named}
 use Rattle.round.specs.Delivery.{hold, withRecent, previousPlace}
 use Rattle.round.proofs.Fitting.{fits-out, place-cases}
-use Rattle.engine.specs.Lent.{previousPlaceIn, namedIn}
+use Rattle.steps.specs.Lent.{previousPlaceIn, namedIn}
 use Rattle.engine.specs.Giving.{replies}
-use Rattle.engine.proofs.Lent.{previous-lent}
+use Rattle.steps.proofs.Lent.{previous-lent}
 use borrow.Author.Needs.{needs}
 use native.Mathlib.Omega.{arith}
 use Rattle.engine.proofs.answer.send.Statement.{statement}

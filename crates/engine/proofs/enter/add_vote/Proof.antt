@@ -6,9 +6,9 @@ use Rattle.protocol.specs.Table.{says}
 use Rattle.round.specs.declared.Round.{Round}
 use Rattle.round.specs.Delivery.{hold, previousPlace}
 use Rattle.round.proofs.Fitting.{fits-out}
-use Rattle.engine.specs.Lent.{previousIn, previousPlaceIn}
+use Rattle.steps.specs.Lent.{previousIn, previousPlaceIn}
 use Rattle.engine.specs.Giving.{Answerable}
-use Rattle.engine.proofs.Lent.{previous-lent}
+use Rattle.steps.proofs.Lent.{previous-lent}
 use Rattle.engine.proofs.Entering.{held-room, new-answers, enters-new, vote-storable}
 use lib.Seq.{length-take-le}
 use borrow.Author.Needs.{needs}

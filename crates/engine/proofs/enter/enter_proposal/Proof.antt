@@ -8,9 +8,9 @@ use Rattle.round.specs.declared.Round.{Round}
 use Rattle.round.specs.Held.{placeOf}
 use Rattle.round.specs.Delivery.{returned}
 use Rattle.round.proofs.Fitting.{fits-out}
-use Rattle.engine.specs.Lent.{placeIn}
+use Rattle.steps.specs.Lent.{placeIn}
 use Rattle.engine.specs.Giving.{Answerable}
-use Rattle.engine.proofs.Lent.{place-of, found-at, found-nothing}
+use Rattle.steps.proofs.Lent.{place-of, found-at, found-nothing}
 use Rattle.engine.proofs.Entering.{back-answers, enters-back}
 use borrow.Author.Needs.{needs}
 use native.Mathlib.Omega.{arith}

@@ -1,8 +1,8 @@
 use mathlib.Core.Path.{ap, sym, _∙_}
 use Prim.Native.Nat.{ℕ}
 use Rattle.round.specs.Rows.{otherRound, foreign, isKnownId}
-use Rattle.engine.specs.Lent.{isKnownIn}
-use Rattle.engine.proofs.Lent.{known-lent}
+use Rattle.steps.specs.Lent.{isKnownIn}
+use Rattle.steps.proofs.Lent.{known-lent}
 use Rattle.engine.proofs.Taking.{head-other, head-foreign, head-known, head-clear}
 use borrow.Author.Needs.{needs}
 use Rattle.engine.proofs.take.head_row.Statement.{statement}

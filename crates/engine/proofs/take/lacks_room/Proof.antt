@@ -3,8 +3,8 @@ use mathlib.Core.Bool.{Bool, not, _&&_}
 use Prim.Native.Nat.{ℕ}
 use lib.Dec.{ltb, leb}
 use Rattle.base.specs.Tests.{pick}
-use Rattle.engine.specs.Lent.{isAwaitedIn}
-use Rattle.engine.proofs.Lent.{awaited-lent}
+use Rattle.steps.specs.Lent.{isAwaitedIn}
+use Rattle.steps.proofs.Lent.{awaited-lent}
 use borrow.Author.Needs.{needs}
 use Rattle.engine.proofs.take.lacks_room.Statement.{statement}
 use Rattle.engine.proofs.take.lacks_room.Tie as tie

@@ -8,8 +8,8 @@ use Rattle.digest.specs.Sha256.{sha256}
 use Rattle.protocol.specs.Table.{offers}
 use Rattle.round.specs.Rows.{otherRound, isKnownId, full, proposalRows, firstOf}
 use Rattle.round.proofs.Fitting.{fits-out}
-use Rattle.engine.specs.Lent.{isKnownIn}
-use Rattle.engine.proofs.Lent.{known-lent}
+use Rattle.steps.specs.Lent.{isKnownIn}
+use Rattle.steps.proofs.Lent.{known-lent}
 use Rattle.engine.proofs.Taking.{proposal-row, three-other, three-known, three-full, three-none, taken-refused, taken-entered}
 use borrow.Author.Needs.{needs}
 use native.Mathlib.Omega.{arith}
@@ -30,7 +30,7 @@ returns c =
     let o = otherRound r (a .m .house) (a .m .bay) in
     let k = isKnownId r (a .t2) in
     let l = full r (a .t2) in
-    taken-refused sha256 r (a .t2) h (firstOf (proposalRows r (a .t2) (a .m))) (c .refuse .result) (a .reply .now) (a .reply .now) OtherRound (proposal-row r (a .t2) (a .m) ∙ three-other o k l (sym (c .before .before .is-other .ensures) ∙ c .before .if1 .taken)) (c .refuse .ensures)
+    taken-refused sha256 r (a .t2) h (firstOf (proposalRows r (a .t2) (a .m))) (c .refuse .result) (a .reply .now) OtherRound (proposal-row r (a .t2) (a .m) ∙ three-other o k l (sym (c .before .before .is-other .ensures) ∙ c .before .if1 .taken)) (c .refuse .ensures)
 
 size-requires : tie.Need-size-requires
 size-requires c κs = search needs
@@ -60,7 +60,7 @@ returns-2 c =
     let o = otherRound r (a .m .house) (a .m .bay) in
     let k = isKnownId r (a .t2) in
     let l = full r (a .t2) in
-    taken-refused sha256 r (a .t2) h (firstOf (proposalRows r (a .t2) (a .m))) (c .refuse2 .result) (a .reply .now) (a .reply .now) Known (proposal-row r (a .t2) (a .m) ∙ three-known o k l (sym (c .before .before .before .before .before .before .before .before .before .before .before .is-other .ensures) ∙ c .before .before .before .before .before .before .before .before .before .before .if1 .left) (sym (c .before .before .is-known .ensures ∙ ap (λ (x : ℕ). isKnownIn (r .ids) x (r .known) (a .t2)) (c .before .before .before .before .before .before .size .ensures .0) ∙ sym (known-lent r (a .t2))) ∙ c .before .if2 .taken)) (c .refuse2 .ensures)
+    taken-refused sha256 r (a .t2) h (firstOf (proposalRows r (a .t2) (a .m))) (c .refuse2 .result) (a .reply .now) Known (proposal-row r (a .t2) (a .m) ∙ three-known o k l (sym (c .before .before .before .before .before .before .before .before .before .before .before .is-other .ensures) ∙ c .before .before .before .before .before .before .before .before .before .before .if1 .left) (sym (c .before .before .is-known .ensures ∙ ap (λ (x : ℕ). isKnownIn (r .ids) x (r .known) (a .t2)) (c .before .before .before .before .before .before .size .ensures .0) ∙ sym (known-lent r (a .t2))) ∙ c .before .if2 .taken)) (c .refuse2 .ensures)
 
 lacks-room-requires : tie.Need-lacks-room-requires
 lacks-room-requires c κs = fits-out (c .before .before .before .before .before .before .before .before .before .before .before .before .before .args .t1) (c .before .before .before .before .before .before .before .before .before .before .before .before .before .pre .0) .most
@@ -76,7 +76,7 @@ returns-3 c =
     let o = otherRound r (a .m .house) (a .m .bay) in
     let k = isKnownId r (a .t2) in
     let l = full r (a .t2) in
-    taken-refused sha256 r (a .t2) h (firstOf (proposalRows r (a .t2) (a .m))) (c .refuse3 .result) (a .reply .now) (a .reply .now) Full (proposal-row r (a .t2) (a .m) ∙ three-full o k l (sym (c .before .before .before .before .before .before .before .before .before .before .before .before .before .before .is-other .ensures) ∙ c .before .before .before .before .before .before .before .before .before .before .before .before .before .if1 .left) (sym (c .before .before .before .before .before .is-known .ensures ∙ ap (λ (x : ℕ). isKnownIn (r .ids) x (r .known) (a .t2)) (c .before .before .before .before .before .before .before .before .before .size .ensures .0) ∙ sym (known-lent r (a .t2))) ∙ c .before .before .before .before .if2 .left) (sym (c .before .before .lacks-room .ensures) ∙ c .before .if3 .taken)) (c .refuse3 .ensures)
+    taken-refused sha256 r (a .t2) h (firstOf (proposalRows r (a .t2) (a .m))) (c .refuse3 .result) (a .reply .now) Full (proposal-row r (a .t2) (a .m) ∙ three-full o k l (sym (c .before .before .before .before .before .before .before .before .before .before .before .before .before .before .is-other .ensures) ∙ c .before .before .before .before .before .before .before .before .before .before .before .before .before .if1 .left) (sym (c .before .before .before .before .before .is-known .ensures ∙ ap (λ (x : ℕ). isKnownIn (r .ids) x (r .known) (a .t2)) (c .before .before .before .before .before .before .before .before .before .size .ensures .0) ∙ sym (known-lent r (a .t2))) ∙ c .before .before .before .before .if2 .left) (sym (c .before .before .lacks-room .ensures) ∙ c .before .if3 .taken)) (c .refuse3 .ensures)
 
 enter-proposal-requires : tie.Need-enter-proposal-requires
 enter-proposal-requires c κs =

@@ -1,5 +1,5 @@
 use mathlib.Core.Path.{ap, sym}
-use Rattle.engine.specs.Lent.{answerTo}
+use Rattle.engine.specs.Telling.{answerTo}
 use borrow.Author.Needs.{needs}
 use Rattle.engine.proofs.verdict.answer_to.Statement.{statement}
 use Rattle.engine.proofs.verdict.answer_to.Tie as tie

@@ -1,7 +1,5 @@
-use mathlib.Core.Path.{_≡_, refl, ap, ap₂, sym, _∙_}
-use Prim.Native.Nat.{ℕ, suc, _≤_, _<_, _-_, _+_, _*_, _/_, _^_, min, max}
-use lib.ListN.{length, getD}
-use mathlib.Core.Bool.{Bool, not}
+use mathlib.Core.Path.{_≡_, refl, ap, sym, _∙_}
+use Prim.Native.Nat.{ℕ, _≤_, _-_}
 use borrow.Author.Tests.{not-true, not-false}
 use Rattle.base.specs.Tests.{all, below}
 use Rattle.base.proofs.Tests.{below-here, below-past}
@@ -11,9 +9,6 @@ use borrow.Author.Needs.{needs}
 use native.Mathlib.Omega.{arith}
 use Rattle.graph.proofs.condensed.is_condensed.Statement.{statement}
 use Rattle.graph.proofs.condensed.is_condensed.Tie as tie
-use Rattle.graph.proofs.condensed.is_condensed.Reads as reads
-use Rattle.graph.proofs.condensed.is_condensed.Lts as lts
-use Rattle.graph.proofs.condensed.condensed_row.Reads as condensed-row-reads
 
 -- lemmas
 

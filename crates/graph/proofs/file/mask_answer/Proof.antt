@@ -1,22 +1,10 @@
-use mathlib.Core.Path.{_≡_, refl, ap, ap₂, sym, _∙_}
-use Prim.Native.Nat.{ℕ, suc, _≤_, _<_, _-_, _+_, _*_, _/_, _^_, min, max}
-use lib.ListN.{length, getD}
-use mathlib.Core.Bool.{Bool, true, false}
-use mathlib.Core.List.{List, [], _∷_, _++_}
-use lib.ListN.{set, length-set}
+use mathlib.Core.Path.{_≡_, ap, sym, _∙_}
+use Prim.Native.Nat.{ℕ, _-_, _^_, min}
+use mathlib.Core.Bool.{true, false}
 use lib.Seq.{slice}
-use borrow.Author.Tests.{lt-ltb, le-ltb, le-leb, lt-leb}
-use Rattle.base.specs.Bytes.{be, putAt}
-use Rattle.graph.specs.File.{Got, got, no, andThen, afterCheck, last, maskAnswer, readCount, readMasks, readList, readLists, readRows}
-use Rattle.graph.specs.Held.{valueOf, MasksHeld}
-use Rattle.graph.specs.declared.Answer.{Answer}
-use Rattle.graph.specs.declared.Answer.the-variants as Answer
-use Rattle.graph.specs.declared.file.Field.{Field}
-use Rattle.graph.specs.declared.file.Field.the-variants as Field
 use lib.Bits.{bitOr}
 use lib.Pow.{pow-pos}
 use Rattle.base.specs.Tests.{any}
-use Rattle.base.specs.Sets.{has, contains}
 use Rattle.graph.specs.Held.{within}
 use Rattle.graph.proofs.Held.{some-contained}
 use Rattle.graph.proofs.Reader.{mask-zero, mask-unknown, mask-order, mask-last}
@@ -24,10 +12,6 @@ use borrow.Author.Needs.{needs}
 use native.Mathlib.Omega.{arith}
 use Rattle.graph.proofs.file.mask_answer.Statement.{statement}
 use Rattle.graph.proofs.file.mask_answer.Tie as tie
-use Rattle.graph.proofs.file.mask_answer.Reads as reads
-use Rattle.graph.proofs.file.mask_answer.Lts as lts
-use Rattle.graph.proofs.lists.known.Reads as known-reads
-use Rattle.graph.proofs.lists.some_within.Reads as some-within-reads
 
 returns : tie.Need-returns
 returns c = let a = c .before .before .args in sym (mask-zero (a .acceptors) (slice (a .from) (a .to) (a .masks .now)) (a .m) (c .if1 .taken))

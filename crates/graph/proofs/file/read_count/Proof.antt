@@ -1,25 +1,13 @@
-use mathlib.Core.Path.{_≡_, refl, ap, ap₂, sym, _∙_}
-use Prim.Native.Nat.{ℕ, suc, _≤_, _<_, _-_, _+_, _*_, _/_, _^_, min, max}
+use mathlib.Core.Path.{ap}
+use Prim.Native.Nat.{_-_}
 use lib.ListN.{length, getD}
-use mathlib.Core.Bool.{Bool, true, false}
-use mathlib.Core.List.{List, [], _∷_, _++_}
-use lib.ListN.{set, length-set}
-use lib.Seq.{slice}
 use borrow.Author.Tests.{lt-ltb, le-ltb, le-leb, lt-leb}
-use Rattle.base.specs.Bytes.{be, putAt}
-use Rattle.graph.specs.File.{Got, got, no, andThen, afterCheck, last, maskAnswer, readCount, readMasks, readList, readLists, readRows}
-use Rattle.graph.specs.Held.{valueOf, MasksHeld}
-use Rattle.graph.specs.declared.Answer.{Answer}
-use Rattle.graph.specs.declared.Answer.the-variants as Answer
 use Rattle.graph.specs.declared.file.Field.{Field}
 use Rattle.graph.specs.declared.file.Field.the-variants as Field
 use borrow.Author.Needs.{needs}
 use native.Mathlib.Omega.{arith}
 use Rattle.graph.proofs.file.read_count.Statement.{statement}
 use Rattle.graph.proofs.file.read_count.Tie as tie
-use Rattle.graph.proofs.file.read_count.Reads as reads
-use Rattle.graph.proofs.file.read_count.Lts as lts
-use Rattle.base.proofs.size.Reads as size-reads
 
 returns : tie.Need-returns
 returns c = let s = c .before .before .args .s .now in simp (le-ltb (c .before .before .args .at) (length s) (c .if1 .taken))

@@ -1,31 +1,21 @@
-use mathlib.Core.Path.{_≡_, refl, ap, ap₂, sym, _∙_}
-use Prim.Native.Nat.{ℕ, suc, _≤_, _<_, _-_, _+_, _*_, _/_, _^_, min, max}
-use lib.ListN.{length, getD}
-use mathlib.Core.Bool.{Bool, true, false}
+use mathlib.Core.Path.{_≡_, refl, ap, ap₂, sym, _∙_, subst}
+use Prim.Native.Nat.{ℕ, suc, _≤_, _-_, _+_}
+use lib.ListN.{length, length-set, length-append}
 use mathlib.Core.List.{List, [], _∷_, _++_}
-use lib.ListN.{set, length-set, length-append}
-use lib.Seq.{slice}
-use borrow.Author.Tests.{lt-ltb, le-ltb, le-leb, lt-leb}
 use Rattle.base.specs.Bytes.{be, putAt}
-use Rattle.graph.specs.File.{Got, got, no, andThen, afterCheck, last, maskAnswer, readCount, readMasks, readList, readLists, readRows}
-use Rattle.graph.specs.Held.{valueOf, MasksHeld}
+use Rattle.graph.specs.File.{Got, last, maskAnswer, readMasks}
+use Rattle.graph.specs.Held.{MasksHeld}
 use Rattle.graph.specs.declared.Answer.{Answer}
 use Rattle.graph.specs.declared.Answer.the-variants as Answer
 use Rattle.graph.specs.declared.file.Field.{Field}
 use Rattle.graph.specs.declared.file.Field.the-variants as Field
-use mathlib.Core.Path.{subst}
 use lib.Seq.{paste-zero}
-use Rattle.base.specs.declared.refusal.Refusal.{Refusal}
 use Rattle.base.specs.declared.refusal.Refusal.the-variants.{Length}
 use Rattle.graph.proofs.Reader.{last-snoc, part-put, put-more, masks-short, masks-go}
 use borrow.Author.Needs.{needs}
 use native.Mathlib.Omega.{arith}
 use Rattle.graph.proofs.file.read_masks.Statement.{statement}
 use Rattle.graph.proofs.file.read_masks.Tie as tie
-use Rattle.graph.proofs.file.read_masks.Reads as reads
-use Rattle.graph.proofs.file.read_masks.Lts as lts
-use Rattle.graph.proofs.file.mask_answer.Reads as mask-answer-reads
-use Rattle.graph.proofs.file.read_mask.Reads as read-mask-reads
 
 -- lemmas
 

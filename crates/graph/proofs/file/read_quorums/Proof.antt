@@ -1,28 +1,16 @@
-use mathlib.Core.Path.{_≡_, refl, ap, ap₂, sym, _∙_}
-use Prim.Native.Nat.{ℕ, suc, _≤_, _<_, _-_, _+_, _*_, _/_, _^_, min, max}
-use lib.ListN.{length, getD}
-use mathlib.Core.Bool.{Bool, true, false}
-use mathlib.Core.List.{List, [], _∷_, _++_}
-use lib.ListN.{set, length-set}
-use lib.Seq.{slice}
-use borrow.Author.Tests.{lt-ltb, le-ltb, le-leb, lt-leb}
-use Rattle.base.specs.Bytes.{be, putAt}
-use Rattle.graph.specs.File.{Got, got, no, andThen, afterCheck, last, maskAnswer, readCount, readMasks, readList, readLists, readRows}
-use Rattle.graph.specs.Held.{valueOf, MasksHeld}
-use Rattle.graph.specs.declared.Answer.{Answer}
-use Rattle.graph.specs.declared.Answer.the-variants as Answer
+use mathlib.Core.Path.{refl, sym, _∙_, subst}
+use Prim.Native.Nat.{ℕ, _≤_, _-_}
+use lib.ListN.{length, getD, length-set}
+use mathlib.Core.List.{List}
+use Rattle.graph.specs.File.{Got, last}
 use Rattle.graph.specs.declared.file.Field.{Field}
 use Rattle.graph.specs.declared.file.Field.the-variants as Field
-use mathlib.Core.Path.{subst}
-use Rattle.graph.specs.Held.{Held, hold, holdAll, holdRows, pairList, Sized, HeldAfter}
-use Rattle.graph.proofs.Reader.{Filled, ListGot, filled-none, filled-no, filled-got, filled-more, filled-all, after-got, after-no}
+use Rattle.graph.specs.Held.{holdAll, Sized, HeldAfter}
+use Rattle.graph.proofs.Reader.{Filled, filled-none, filled-no, filled-got, filled-more, filled-all}
 use borrow.Author.Needs.{needs}
 use native.Mathlib.Omega.{arith}
 use Rattle.graph.proofs.file.read_quorums.Statement.{statement}
 use Rattle.graph.proofs.file.read_quorums.Tie as tie
-use Rattle.graph.proofs.file.read_quorums.Reads as reads
-use Rattle.graph.proofs.file.read_quorums.Lts as lts
-use Rattle.graph.proofs.file.read_list.Reads as read-list-reads
 
 -- lemmas
 

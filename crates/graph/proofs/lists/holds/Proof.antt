@@ -1,17 +1,11 @@
-use mathlib.Core.Path.{_≡_, refl, ap, ap₂, sym, _∙_}
-use Prim.Native.Nat.{ℕ, suc, _≤_, _<_, _-_, _+_, _*_, _/_, _^_, min, max}
-use lib.ListN.{length, getD}
+use mathlib.Core.Path.{ap, _∙_}
+use Prim.Native.Nat.{ℕ, _-_, _+_, _*_}
 use Rattle.base.specs.Tests.{any}
 use lib.Seq.{slice}
 use Rattle.graph.specs.Held.{within, listOf}
 use borrow.Author.Needs.{needs}
-use native.Mathlib.Omega.{arith}
 use Rattle.graph.proofs.lists.holds.Statement.{statement}
 use Rattle.graph.proofs.lists.holds.Tie as tie
-use Rattle.graph.proofs.lists.holds.Reads as reads
-use Rattle.graph.proofs.lists.holds.Lts as lts
-use Rattle.graph.proofs.lists.count_of.Reads as count-of-reads
-use Rattle.graph.proofs.lists.some_within.Reads as some-within-reads
 
 mul-from : tie.Need-mul-from
 mul-from c = search needs

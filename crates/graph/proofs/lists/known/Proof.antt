@@ -1,14 +1,11 @@
-use mathlib.Core.Path.{_≡_, refl, ap, ap₂, sym, _∙_}
-use Prim.Native.Nat.{ℕ, suc, _≤_, _<_, _-_, _+_, _*_, _/_, _^_, min, max}
-use lib.ListN.{length, getD}
+use mathlib.Core.Path.{_≡_, ap, sym, _∙_}
+use Prim.Native.Nat.{ℕ, _-_, _^_, min}
 use Rattle.base.proofs.Bits.{one-shl}
 use lib.Pow.{pow-pos}
 use borrow.Author.Needs.{needs}
 use native.Mathlib.Omega.{arith}
 use Rattle.graph.proofs.lists.known.Statement.{statement}
 use Rattle.graph.proofs.lists.known.Tie as tie
-use Rattle.graph.proofs.lists.known.Reads as reads
-use Rattle.graph.proofs.lists.known.Lts as lts
 
 shl-result : tie.Need-shl-result
 shl-result c = search needs

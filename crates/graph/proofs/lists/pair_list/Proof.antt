@@ -1,14 +1,10 @@
-use mathlib.Core.Path.{_≡_, refl, ap, ap₂, sym, _∙_}
-use Prim.Native.Nat.{ℕ, suc, _≤_, _<_, _-_, _+_, _*_, _/_, _^_, min, max}
-use lib.ListN.{length, getD}
+use mathlib.Core.Path.{_≡_, ap, sym, _∙_}
+use Prim.Native.Nat.{_-_, max}
 use Rattle.graph.specs.Held.{triangle, pairList}
 use borrow.Author.Needs.{needs}
 use native.Mathlib.Omega.{arith}
 use Rattle.graph.proofs.lists.pair_list.Statement.{statement}
 use Rattle.graph.proofs.lists.pair_list.Tie as tie
-use Rattle.graph.proofs.lists.pair_list.Reads as reads
-use Rattle.graph.proofs.lists.pair_list.Lts as lts
-use Rattle.graph.proofs.lists.triangle.Reads as triangle-reads
 
 triangle-requires : tie.Need-triangle-requires
 triangle-requires c κs = search needs

@@ -1,18 +1,12 @@
-use mathlib.Core.Path.{_≡_, refl, ap, ap₂, sym, _∙_}
-use Prim.Native.Nat.{ℕ, suc, _≤_, _<_, _-_, _+_, _*_, _/_, _^_, min, max}
-use lib.ListN.{length, getD}
+use mathlib.Core.Path.{ap, _∙_}
+use Prim.Native.Nat.{ℕ, _-_}
 use Rattle.base.specs.Tests.{any}
 use Rattle.base.specs.Sets.{has, apart}
 use Rattle.graph.specs.Held.{listOf}
 use Rattle.graph.specs.LearnerGraph.{safeWithout}
 use borrow.Author.Needs.{needs}
-use native.Mathlib.Omega.{arith}
 use Rattle.graph.proofs.lists.safe_without.Statement.{statement}
 use Rattle.graph.proofs.lists.safe_without.Tie as tie
-use Rattle.graph.proofs.lists.safe_without.Reads as reads
-use Rattle.graph.proofs.lists.safe_without.Lts as lts
-use Rattle.graph.proofs.lists.pair_list.Reads as pair-list-reads
-use Rattle.graph.proofs.lists.some_apart.Reads as some-apart-reads
 
 pair-list-requires : tie.Need-pair-list-requires
 pair-list-requires c κs = search needs

@@ -1,6 +1,5 @@
-use mathlib.Core.Path.{_≡_, refl, ap, ap₂, sym, _∙_}
-use Prim.Native.Nat.{ℕ, suc, _≤_, _<_, _-_, _+_, _*_, _/_, _^_, min, max}
-use lib.ListN.{length, getD}
+use mathlib.Core.Path.{ap, _∙_}
+use Prim.Native.Nat.{ℕ, _-_}
 use lib.Bits.{bitOr}
 use Rattle.base.specs.Tests.{any}
 use Rattle.graph.specs.Held.{within, listOf}
@@ -9,10 +8,6 @@ use borrow.Author.Needs.{needs}
 use native.Mathlib.Omega.{arith}
 use Rattle.graph.proofs.lists.some_contained.Statement.{statement}
 use Rattle.graph.proofs.lists.some_contained.Tie as tie
-use Rattle.graph.proofs.lists.some_contained.Reads as reads
-use Rattle.graph.proofs.lists.some_contained.Lts as lts
-use Rattle.graph.proofs.lists.holds.Reads as holds-reads
-use Rattle.graph.proofs.lists.known.Reads as known-reads
 
 known-requires : tie.Need-known-requires
 known-requires c κs = search needs

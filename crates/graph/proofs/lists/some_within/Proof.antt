@@ -1,17 +1,12 @@
-use mathlib.Core.Path.{_≡_, refl, ap, ap₂, sym, _∙_}
-use Prim.Native.Nat.{ℕ, suc, _≤_, _<_, _-_, _+_, _*_, _/_, _^_, min, max}
-use lib.ListN.{length, getD}
+use mathlib.Core.Path.{_≡_, refl, sym, _∙_}
+use Prim.Native.Nat.{_-_}
 use Rattle.base.specs.Tests.{any}
 use lib.Seq.{slice}
 use Rattle.base.proofs.Tests.{any-end, any-here, any-past}
 use Rattle.graph.specs.Held.{within}
 use borrow.Author.Needs.{needs}
-use native.Mathlib.Omega.{arith}
 use Rattle.graph.proofs.lists.some_within.Statement.{statement}
 use Rattle.graph.proofs.lists.some_within.Tie as tie
-use Rattle.graph.proofs.lists.some_within.Reads as reads
-use Rattle.graph.proofs.lists.some_within.Lts as lts
-use Rattle.graph.proofs.lists.within.Reads as within-reads
 
 abbrev Inv-loop : tie.InvT-loop
 Inv-loop masks from to set i₀ i = any (within set) (slice from to masks) ≡ any (within set) (slice i to masks)

@@ -1,13 +1,9 @@
-use mathlib.Core.Path.{_≡_, refl, ap, ap₂, sym, _∙_}
-use Prim.Native.Nat.{ℕ, suc, _≤_, _<_, _-_, _+_, _*_, _/_, _^_, min, max}
-use lib.ListN.{length, getD}
+use Prim.Native.Nat.{_-_}
 use Rattle.graph.proofs.Held.{triangle-half, half-small}
 use borrow.Author.Needs.{needs}
 use native.Mathlib.Omega.{arith}
 use Rattle.graph.proofs.lists.triangle.Statement.{statement}
 use Rattle.graph.proofs.lists.triangle.Tie as tie
-use Rattle.graph.proofs.lists.triangle.Reads as reads
-use Rattle.graph.proofs.lists.triangle.Lts as lts
 
 add-result : tie.Need-add-result
 add-result c = search needs

@@ -1,24 +1,19 @@
-use mathlib.Core.Path.{_≡_, refl, ap, ap₂, sym, _∙_}
-use Prim.Native.Nat.{ℕ, suc, _≤_, _<_, _-_, _+_, _*_, _/_, _^_, min, max}
-use lib.ListN.{length, getD}
-use mathlib.Core.Bool.{Bool, not}
+use mathlib.Core.Path.{_≡_, ap, sym, _∙_}
+use Prim.Native.Nat.{ℕ, _≤_, _-_, _+_, _*_}
+use lib.ListN.{length}
+use mathlib.Core.Bool.{Bool}
 use mathlib.Core.List.{List}
 use lib.Seq.{slice}
 use borrow.Author.Tests.{not-true, not-false}
-use Rattle.base.specs.Tests.{any, all, below}
-use Rattle.base.proofs.Tests.{all-end, all-here, all-past, below-here, below-past}
-use Rattle.graph.specs.Held.{listOf, pairList, heldGraph}
+use Rattle.base.specs.Tests.{all}
+use Rattle.base.proofs.Tests.{all-end, all-here, all-past}
+use Rattle.graph.specs.Held.{listOf, heldGraph}
 use Rattle.graph.specs.LearnerGraph.{common, validAt}
 use Rattle.graph.proofs.Held.{list-is}
 use borrow.Author.Needs.{needs}
 use native.Mathlib.Omega.{arith}
 use Rattle.graph.proofs.valid.valid_at.Statement.{statement}
 use Rattle.graph.proofs.valid.valid_at.Tie as tie
-use Rattle.graph.proofs.valid.valid_at.Reads as reads
-use Rattle.graph.proofs.valid.valid_at.Lts as lts
-use Rattle.graph.proofs.lists.count_of.Reads as count-of-reads
-use Rattle.graph.proofs.lists.pair_list.Reads as pair-list-reads
-use Rattle.graph.proofs.valid.meets.Reads as meets-reads
 
 -- lemmas
 

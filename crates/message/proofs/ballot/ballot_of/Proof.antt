@@ -2,12 +2,9 @@ use mathlib.Core.Path.{_∙_, ap}
 use Prim.Native.Nat.{ℕ}
 use lib.Bits.{bitOr, or-shifted}
 use lib.Pow.{shl-exact}
-use borrow.Author.Needs.{needs}
 use native.Mathlib.Omega.{arith}
 use Rattle.message.proofs.ballot.ballot_of.Statement.{statement}
 use Rattle.message.proofs.ballot.ballot_of.Tie as tie
-use Rattle.message.proofs.ballot.ballot_of.Reads as reads
-use Rattle.message.proofs.ballot.ballot_of.Lts as lts
 
 returns : tie.Need-returns
 returns c =

@@ -1,10 +1,6 @@
 use borrow.Author.Tests.{eq-eqb, ne-eqb}
-use borrow.Author.Needs.{needs}
-use native.Mathlib.Omega.{arith}
 use Rattle.message.proofs.ballot.written_round.Statement.{statement}
 use Rattle.message.proofs.ballot.written_round.Tie as tie
-use Rattle.message.proofs.ballot.written_round.Reads as reads
-use Rattle.message.proofs.ballot.written_round.Lts as lts
 
 returns : tie.Need-returns
 returns c = simp (eq-eqb _ _ (c .if1 .taken))

@@ -1,10 +1,7 @@
 use mathlib.Core.Path.{refl}
 use borrow.Author.Needs.{needs}
-use native.Mathlib.Omega.{arith}
 use Rattle.message.proofs.layout.count_at.Statement.{statement}
 use Rattle.message.proofs.layout.count_at.Tie as tie
-use Rattle.message.proofs.layout.count_at.Reads as reads
-use Rattle.message.proofs.layout.count_at.Lts as lts
 
 add-result : tie.Need-add-result
 add-result c = search needs

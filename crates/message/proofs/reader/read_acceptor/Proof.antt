@@ -1,4 +1,4 @@
-use mathlib.Core.Path.{_≡_, refl, sym, ap, _∙_}
+use mathlib.Core.Path.{refl, sym, _∙_}
 use lib.Dec.{eqb}
 use lib.ListN.{length, getD}
 use borrow.Author.Tests.{le-ltb, lt-ltb, lt-leb}
@@ -7,9 +7,6 @@ use borrow.Author.Needs.{needs}
 use native.Mathlib.Omega.{arith}
 use Rattle.message.proofs.reader.read_acceptor.Statement.{statement}
 use Rattle.message.proofs.reader.read_acceptor.Tie as tie
-use Rattle.message.proofs.reader.read_acceptor.Reads as reads
-use Rattle.message.proofs.reader.read_acceptor.Lts as lts
-use Rattle.message.proofs.reader.read_marked.Reads as read-marked-reads
 
 returns : tie.Need-returns
 returns c = simp (le-ltb 9 (length (c .before .before .args .s .now)) (omega arith))

@@ -1,6 +1,6 @@
 use mathlib.Core.Path.{_≡_, sym, ap, _∙_}
 use mathlib.Core.Bool.{true, false}
-use Prim.Native.Nat.{ℕ, _-_}
+use Prim.Native.Nat.{_-_}
 use lib.ListN.{length, getD}
 use borrow.Author.Tests.{le-ltb, lt-ltb, lt-leb, le-leb, eq-eqb, ne-eqb, not-true, not-false}
 use Rattle.message.specs.declared.Reading.{Reading}
@@ -13,10 +13,6 @@ use borrow.Author.Needs.{needs}
 use native.Mathlib.Omega.{arith}
 use Rattle.message.proofs.reader.read_counted.Statement.{statement}
 use Rattle.message.proofs.reader.read_counted.Tie as tie
-use Rattle.message.proofs.reader.read_counted.Reads as reads
-use Rattle.message.proofs.reader.read_counted.Lts as lts
-use Rattle.message.proofs.order.ids_ascend.Reads as ids-ascend-reads
-use Rattle.message.proofs.reader.field16.Reads as field16-reads
 
 returns : tie.Need-returns
 returns c = simp (le-ltb 0 (c .before .before .args .n) (omega arith))

@@ -8,11 +8,6 @@ use borrow.Author.Needs.{needs}
 use native.Mathlib.Omega.{arith}
 use Rattle.message.proofs.reader.read_marked.Statement.{statement}
 use Rattle.message.proofs.reader.read_marked.Tie as tie
-use Rattle.message.proofs.reader.read_marked.Reads as reads
-use Rattle.message.proofs.reader.read_marked.Lts as lts
-use Rattle.base.proofs.size.Reads as size-reads
-use Rattle.message.proofs.layout.count_at.Reads as count-at-reads
-use Rattle.message.proofs.reader.read_counted.Reads as read-counted-reads
 
 count-at-requires : tie.Need-count-at-requires
 count-at-requires c κs = search needs

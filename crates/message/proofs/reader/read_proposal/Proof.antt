@@ -1,18 +1,13 @@
 use mathlib.Core.Path.{_≡_, sym, _∙_}
-use lib.ListN.{length, getD}
+use lib.ListN.{getD}
 use borrow.Author.Tests.{ne-eqb}
 use Rattle.message.specs.declared.Reading.{Reading}
 use Rattle.message.specs.declared.Reading.the-variants.{OfProposer}
 use Rattle.message.specs.Reader.{proposalIn}
 use Rattle.message.proofs.Checks.{to-proposal}
 use borrow.Author.Needs.{needs}
-use native.Mathlib.Omega.{arith}
 use Rattle.message.proofs.reader.read_proposal.Statement.{statement}
 use Rattle.message.proofs.reader.read_proposal.Tie as tie
-use Rattle.message.proofs.reader.read_proposal.Reads as reads
-use Rattle.message.proofs.reader.read_proposal.Lts as lts
-use Rattle.base.proofs.read64.Reads as read64-reads
-use Rattle.message.proofs.reader.field16.Reads as field16-reads
 
 returns : tie.Need-returns
 returns c = simp (ne-eqb _ _ (c .if1 .taken))

@@ -1,6 +1,6 @@
 use mathlib.Core.Path.{_≡_, refl, ap, ap₂, sym, _∙_}
 use mathlib.Core.List.{List}
-use Prim.Native.Nat.{ℕ, suc, _+_, _*_, _-_, _≤_, _<_}
+use Prim.Native.Nat.{ℕ, _+_, _*_, _-_, _≤_}
 use native.Mathlib.Numerals.{add-one}
 use lib.ListN.{length, getD, take, drop}
 use Rattle.base.specs.Bytes.{part, putAt}
@@ -11,10 +11,6 @@ use borrow.Author.Needs.{needs}
 use native.Mathlib.Omega.{arith}
 use Rattle.message.proofs.writer.put_references.Statement.{statement}
 use Rattle.message.proofs.writer.put_references.Tie as tie
-use Rattle.message.proofs.writer.put_references.Reads as reads
-use Rattle.message.proofs.writer.put_references.Lts as lts
-use Rattle.base.proofs.put_all.Reads as put-all-reads
-use Rattle.base.proofs.size.Reads as size-reads
 
 abbrev Inv-loop : tie.InvT-loop
 Inv-loop buf₀ at ids places n i₀ buf i = (i ≤ n) × ((length buf ≡ length buf₀) × (buf ≡ putAt buf₀ at (gathered i ids places)))

@@ -1,16 +1,11 @@
-use mathlib.Core.Path.{_≡_, refl}
-use mathlib.Core.List.{List, [], _∷_, _++_}
-use Prim.Native.Nat.{ℕ, _-_}
+use mathlib.Core.Path.{refl}
+use mathlib.Core.List.{[], _∷_, _++_}
+use Prim.Native.Nat.{_-_}
 use Rattle.base.specs.Bytes.{bytes}
 use Rattle.base.proofs.Bytes.{more}
 use borrow.Author.Needs.{needs}
-use native.Mathlib.Omega.{arith}
 use Rattle.message.proofs.writer.write_head.Statement.{statement}
 use Rattle.message.proofs.writer.write_head.Tie as tie
-use Rattle.message.proofs.writer.write_head.Reads as reads
-use Rattle.message.proofs.writer.write_head.Lts as lts
-use Rattle.base.proofs.put16.Reads as put16-reads
-use Rattle.base.proofs.put8.Reads as put8-reads
 
 sub-put16 : tie.Need-sub-put16
 sub-put16 c = search needs

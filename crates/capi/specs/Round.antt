@@ -1,0 +1,137 @@
+-- What the calls on a round in a lent buffer answer, and each byte that they write. The layout of a round is that of roundbytes.
+use mathlib.Core.Bool.{_||_}
+use mathlib.Core.List.{List, [], _∷_, _++_}
+use mathlib.Core.Logic.{_≢_}
+use mathlib.Core.Path.{_≡_}
+use Prim.Native.Nat.{ℕ, _+_, _≤_, _<_}
+use lib.Dec.{ltb}
+use lib.ListN.{length}
+use Rattle.base.specs.Tests.{pick}
+use Rattle.base.specs.Bytes.{bytes, Octets}
+use Rattle.base.specs.Refusals.{numberOf}
+use Rattle.digest.specs.Sha256.{sha256}
+use Rattle.message.specs.Writer.{fronted}
+use Rattle.round.specs.declared.Round.{Round}
+use Rattle.round.specs.declared.Opening.{Opening}
+use Rattle.round.specs.declared.Opening.the-variants as opening
+use Rattle.round.specs.declared.Outcome.{Outcome}
+use Rattle.round.specs.declared.Outcome.the-variants as outcome
+use Rattle.round.specs.declared.Report.{Report}
+use Rattle.round.specs.declared.Report.the-variants as answer
+use Rattle.round.specs.Limits.{listening}
+use Rattle.round.specs.Opening.{opened}
+use Rattle.round.specs.Delivery.{delivered, replied}
+use Rattle.round.specs.Report.{reported}
+use Rattle.round.specs.Lists.{Call, deliver, report, lastRound}
+use Rattle.round.specs.Demands.{Starts}
+use Rattle.roundbytes.specs.Layout.{roundLen, roundBytes, roundIn}
+
+-- ---- opening
+-- 0, or the number of the row that turns the call down
+abbrev pub openNumber : Opening → ℕ
+openNumber opening.Opened = 0
+openNumber (opening.Refused e) = numberOf e
+
+-- the own acceptor number: 256 is listening only. A larger one is in no graph, and neither is 255.
+abbrev pub seat : ℕ → ℕ
+seat acceptor = pick (ltb listening acceptor) 255 acceptor
+
+-- the buffer after an opening: the round at its front, or all as it was
+abbrev pub openedTo : Opening → Round → List ℕ → List ℕ
+openedTo opening.Opened r buffer = fronted (roundBytes r) buffer
+openedTo (opening.Refused e) r buffer = buffer
+
+-- 17 for a buffer that no round fits, before all else
+abbrev pub openAnswer : List ℕ → ℕ → ℕ → ℕ → List ℕ → ℕ
+openAnswer file house bay acceptor buffer = pick (ltb (length buffer) roundLen) 17 (openNumber (opened file house bay (seat acceptor) .answer))
+
+abbrev pub openTo : List ℕ → ℕ → ℕ → ℕ → List ℕ → List ℕ
+openTo file house bay acceptor buffer =
+    pick (ltb (length buffer) roundLen) buffer (openedTo (opened file house bay (seat acceptor) .answer) (opened file house bay (seat acceptor) .round) buffer)
+
+-- ---- delivering a message
+-- 0 where nothing is sent, 256 and the length of the reply where there is one, or the number of the row
+abbrev pub deliverNumber : Outcome → ℕ
+deliverNumber outcome.Accepted = 0
+deliverNumber (outcome.Replied n) = 256 + n
+deliverNumber (outcome.Refused e) = numberOf e
+
+-- the buffer of the round after a delivery: the next round at its front, or all as it was
+abbrev pub deliveredTo : Outcome → Round → List ℕ → List ℕ
+deliveredTo outcome.Accepted r buffer = fronted (roundBytes r) buffer
+deliveredTo (outcome.Replied n) r buffer = fronted (roundBytes r) buffer
+deliveredTo (outcome.Refused e) r buffer = buffer
+
+-- 17 for bytes that are too few for a round, before all else
+abbrev pub deliverAnswer : List ℕ → List ℕ → List ℕ → ℕ
+deliverAnswer round message reply = pick (ltb (length round) roundLen) 17 (deliverNumber (delivered sha256 (roundIn round) message reply .outcome))
+
+abbrev pub deliverTo : List ℕ → List ℕ → List ℕ → List ℕ
+deliverTo round message reply =
+    pick (ltb (length round) roundLen) round
+    (deliveredTo (delivered sha256 (roundIn round) message reply .outcome) (delivered sha256 (roundIn round) message reply .round) round)
+
+-- the reply buffer afterwards
+abbrev pub replyTo : List ℕ → List ℕ → List ℕ → List ℕ
+replyTo round message reply = pick (ltb (length round) roundLen) reply (replied sha256 (roundIn round) message reply)
+
+-- ---- the report for a learner
+abbrev pub reportNumber : Report → ℕ
+reportNumber answer.Undecided = 0
+reportNumber (answer.Decided x) = 0
+reportNumber (answer.Split x y) = 0
+reportNumber (answer.Refused e) = numberOf e
+
+-- 17 bytes: what is reported 1, and two ballots of 8
+abbrev pub reportBytes : ℕ → ℕ → ℕ → List ℕ
+reportBytes kind x y = (kind ∷ []) ++ bytes 8 x ++ bytes 8 y
+
+abbrev pub reportLen : ℕ
+reportLen = 17
+
+-- the buffer after a report: 0 undecided, 1 decided, 2 split; a ballot is 0 where there is none
+abbrev pub reportedTo : Report → List ℕ → List ℕ
+reportedTo answer.Undecided buffer = fronted (reportBytes 0 0 0) buffer
+reportedTo (answer.Decided x) buffer = fronted (reportBytes 1 x 0) buffer
+reportedTo (answer.Split x y) buffer = fronted (reportBytes 2 x y) buffer
+reportedTo (answer.Refused e) buffer = buffer
+
+-- 17 for bytes that are too few for a round, or a buffer under 17 bytes, before all else
+abbrev pub reportAnswer : List ℕ → ℕ → List ℕ → ℕ
+reportAnswer round learner buffer =
+    pick (ltb (length round) roundLen || ltb (length buffer) reportLen) 17 (reportNumber (reported (roundIn round) learner))
+
+abbrev pub reportTo : List ℕ → ℕ → List ℕ → List ℕ
+reportTo round learner buffer =
+    pick (ltb (length round) roundLen || ltb (length buffer) reportLen) buffer (reportedTo (reported (roundIn round) learner) buffer)
+
+-- ---- what holds of these calls; proofs/RoundCalls proves the first three under the same names, proofs/Keeping the last
+-- "A call turned down writes to nothing that was lent."
+abbrev pub OpenRefused : Type 0
+OpenRefused = (file : List ℕ) (house bay acceptor : ℕ) (buffer : List ℕ)
+    → openAnswer file house bay acceptor buffer ≢ 0 → openTo file house bay acceptor buffer ≡ buffer
+
+abbrev pub DeliverRefused : Type 0
+DeliverRefused = (round message reply : List ℕ) → deliverAnswer round message reply ≢ 0 → deliverAnswer round message reply < 256
+    → (deliverTo round message reply ≡ round) × (replyTo round message reply ≡ reply)
+
+abbrev pub ReportRefused : Type 0
+ReportRefused = (round : List ℕ) (learner : ℕ) (buffer : List ℕ) → reportAnswer round learner buffer ≢ 0 → reportTo round learner buffer ≡ buffer
+
+-- ---- a list of calls on one buffer (round/specs/Lists): each call gets the bytes that the call before it left
+unfoldable pub bytesAfter : List ℕ → List Call → List ℕ
+bytesAfter b [] = b
+bytesAfter b (deliver message reply ∷ l) = bytesAfter (deliverTo b message reply) l
+bytesAfter b (report learner ∷ l) = bytesAfter b l
+
+-- the delivered messages are bytes
+unfoldable pub OfBytes : List Call → Type 0
+OfBytes [] = Unit {0}
+OfBytes (deliver message reply ∷ l) = Octets message × OfBytes l
+OfBytes (report learner ∷ l) = OfBytes l
+
+-- after every list of calls the buffer holds the round that the rules lead to: what the demands say of lists of calls holds of buffers too
+abbrev pub RoundInBytes : Type 0
+RoundInBytes = (file : List ℕ) (house bay acceptor : ℕ) (buffer : List ℕ) (r : Round)
+    → Octets file → Starts file house bay (seat acceptor) r → roundLen ≤ length buffer → (l : List Call) → OfBytes l
+    → roundIn (bytesAfter (openTo file house bay acceptor buffer) l) ≡ lastRound sha256 r l

@@ -1,0 +1,130 @@
+// A round for callers in C, who keep it as bytes in a buffer of their own. A call answers 0, or the number of the row that turns it down.
+use base::put8;
+use base::put64;
+use base::refusal::Refusal;
+use base::refusal::number;
+use round::Opening;
+use round::Outcome;
+use round::Report;
+use roundbytes::ROUND_LEN;
+use roundbytes::decode;
+use roundbytes::encode;
+ghost use mathlib.Core.Path.{_≡_};
+ghost use Prim.Native.Nat.{_≤_};
+ghost use lib.ListN.{length};
+ghost use Rattle.message.specs.Writer.{fronted};
+ghost use Rattle.capi.specs.Round.{seat, openAnswer, openTo, deliverAnswer, deliverTo, replyTo, reportBytes, reportAnswer, reportTo};
+
+// What is reported,
+const UNDECIDED: u8 = 0;
+
+const DECIDED: u8 = 1;
+
+const SPLIT: u8 = 2;
+
+// in one byte, and two ballots behind it.
+const REPORT_LEN: usize = 17;
+
+const FIRST_BALLOT: usize = 1;
+
+const SECOND_BALLOT: usize = 9;
+
+// What a delivery answers that is accepted: with no reply, and with one, of which the length is added.
+const NO_REPLY: u32 = 0;
+
+const REPLY: u32 = 256;
+
+// The acceptor number of a round that listens only. A larger one is in no graph, and neither is 255.
+const LISTENING: u32 = 256;
+
+const IN_NO_GRAPH: u16 = 255;
+
+// The own acceptor number of a round, from the one that the caller gives.
+fn seat_of(acceptor: u32) -> u16
+    ensures { λ r. ⌜ r ≡ seat acceptor ⌝ }
+{
+    if LISTENING < acceptor {
+        return IN_NO_GRAPH;
+    }
+    acceptor as u16
+}
+
+// Opens a round at the front of a lent buffer.
+#[no_mangle]
+pub extern "C" fn hpaxos_open(
+    file: &[u8],
+    house: u16,
+    bay: u16,
+    acceptor: u32,
+    round: &mut [u8],
+) -> u32
+    ensures { λ r. ⌜ (r ≡ openAnswer (now (file .entry)) house bay acceptor (now (round .entry))) × (now (round .exit) ≡ openTo (now (file .entry)) house bay acceptor (now (round .entry))) ⌝ }
+{
+    if round.len() < ROUND_LEN {
+        return number(Refusal::Argument);
+    }
+    let opened = engine::open(file, house, bay, seat_of(acceptor));
+    let answer = opened.answer;
+    let next = opened.round;
+    match answer {
+        Opening::Opened => {
+            encode(next, round);
+            0
+        }
+        Opening::Refused(e) => number(e),
+    }
+}
+
+// Delivers a message to the round at the front of a lent buffer; a reply goes to the front of another.
+#[no_mangle]
+pub extern "C" fn hpaxos_deliver(round: &mut [u8], message: &[u8], reply: &mut [u8]) -> u32
+    ensures { λ r. ⌜ (r ≡ deliverAnswer (now (round .entry)) (now (message .entry)) (now (reply .entry))) × (now (round .exit) ≡ deliverTo (now (round .entry)) (now (message .entry)) (now (reply .entry))) × (now (reply .exit) ≡ replyTo (now (round .entry)) (now (message .entry)) (now (reply .entry))) ⌝ }
+{
+    if round.len() < ROUND_LEN {
+        return number(Refusal::Argument);
+    }
+    let held = decode(round);
+    let given = engine::deliver(held, message, reply);
+    let outcome = given.outcome;
+    let next = given.round;
+    match outcome {
+        Outcome::Accepted => {
+            encode(next, round);
+            NO_REPLY
+        }
+        Outcome::Replied(len) => {
+            encode(next, round);
+            REPLY + len as u32
+        }
+        Outcome::Refused(e) => number(e),
+    }
+}
+
+fn put_report(out: &mut [u8], kind: u8, first: u64, second: u64)
+    requires { ⌜ 17 ≤ length (now out) ⌝ }
+    ensures { λ _. ⌜ now (out .exit) ≡ fronted (reportBytes kind first second) (now (out .entry)) ⌝ }
+{
+    put8(out, 0, kind);
+    put64(out, FIRST_BALLOT, first);
+    put64(out, SECOND_BALLOT, second);
+}
+
+// The report for a learner, written to the front of a lent buffer.
+#[no_mangle]
+pub extern "C" fn hpaxos_report(round: &[u8], learner: u8, out: &mut [u8]) -> u32
+    ensures { λ r. ⌜ (r ≡ reportAnswer (now (round .entry)) learner (now (out .entry))) × (now (out .exit) ≡ reportTo (now (round .entry)) learner (now (out .entry))) ⌝ }
+{
+    if round.len() < ROUND_LEN {
+        return number(Refusal::Argument);
+    }
+    if out.len() < REPORT_LEN {
+        return number(Refusal::Argument);
+    }
+    match engine::report(decode(round), learner) {
+        Report::Undecided => put_report(out, UNDECIDED, 0, 0),
+        Report::Decided(x) => put_report(out, DECIDED, x, 0),
+        Report::Split(x, y) => put_report(out, SPLIT, x, y),
+        Report::Refused(e) => return number(e),
+    }
+    0
+}

@@ -1,0 +1,8 @@
+-- Sets as bits: a bit tested, put in, joined; two sets that meet
+pub mod Membership
+-- What one more turn of a loop adds
+pub mod Loops
+-- The names of the places, one after the other
+pub mod Naming
+-- The two peaks answer Buried
+pub mod Burying

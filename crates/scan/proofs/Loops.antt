@@ -1,0 +1,64 @@
+-- What one more turn of a loop adds, and what a loop has made at its end.
+use mathlib.Core.Path.{_≡_, refl, sym, ap, ap₂, _∙_, subst}
+use mathlib.Core.Bool.{Bool, true, false, _&&_, _||_}
+use mathlib.Core.List.{List, [], _∷_, _++_}
+use Prim.Native.Nat.{ℕ, _+_, _≤_, _<_, max}
+use native.Mathlib.Numerals.{add-one}
+use native.Mathlib.Omega.{arith}
+use lib.Dec.{T, eqb, ltb, eqb→eq, eqb-refl, ltb→lt, lt→ltb}
+use lib.ListN.{length, getD, take}
+use lib.Seq.{take-suc}
+use Rattle.base.specs.Tests.{any, below}
+use Rattle.base.proofs.Tests.{same-test, and-l, and-r, and-in, any-in, any-out, below-in, below-out}
+use Rattle.scan.specs.Arrays.{highest}
+
+-- ---- over the numbers below a bound
+pub any-suc : (f : ℕ → Bool) (i : ℕ) → any f (below (i + 1)) ≡ (f i || any f (below i))
+unfolding any below
+any-suc f i = ap (λ (n : ℕ). any f (below n)) (add-one i)
+
+pub any-again : (f : ℕ → Bool) (j : ℕ) (r found : Bool) → r ≡ f j → found ≡ any f (below j) → (r || found) ≡ any f (below (j + 1))
+any-again f j r found e h = ap₂ _||_ e h ∙ sym (any-suc f j)
+
+pub any-done : (f : ℕ → Bool) (j n : ℕ) → j ≤ n → n ≤ j → any f (below j) ≡ any f (below n)
+any-done f j n l g = let e : j ≡ n = omega arith in ap (λ (k : ℕ). any f (below k)) e
+
+-- a number put into a set where the test passes
+pub put-again : (test : ℕ → Bool) (key : ℕ → ℕ) (j p : ℕ) (on x y : Bool) → x ≡ ((on && eqb (key j) p) || y) → on ≡ test j
+    → y ≡ any (λ i. test i && eqb (key i) p) (below j) → x ≡ any (λ i. test i && eqb (key i) p) (below (j + 1))
+put-again test key j p on x y e o h = e ∙ any-again (λ i. test i && eqb (key i) p) j (on && eqb (key j) p) y (ap (λ (b : Bool). b && eqb (key j) p) o) h
+
+-- what is put in by its own number
+pub any-at : (f : ℕ → Bool) (n q : ℕ) → any (λ j. f j && eqb j q) (below n) ≡ (ltb q n && f q)
+any-at f n q = same-test _ _ to from
+  where
+    to : T (any (λ j. f j && eqb j q) (below n)) → T (ltb q n && f q)
+    to t =
+        let (j, m, k) = any-out (λ j. f j && eqb j q) (below n) t in
+        let e : j ≡ q = eqb→eq j q (and-r (f j) (eqb j q) k) in
+        and-in (ltb q n) (f q) (lt→ltb q n (subst (λ (i : ℕ). i < n) e (below-out n m))) (subst (λ (i : ℕ). T (f i)) e (and-l (f j) (eqb j q) k))
+
+    from : T (ltb q n && f q) → T (any (λ j. f j && eqb j q) (below n))
+    from t = any-in (λ j. f j && eqb j q) {x = q} (below-in n (ltb→lt q n (and-l (ltb q n) (f q) t))) (and-in (f q) (eqb q q) (and-r (ltb q n) (f q) t) (eqb-refl q))
+
+-- ---- over a list, front to back
+any-snoc : (f : ℕ → Bool) (l : List ℕ) (x : ℕ) → any f (l ++ (x ∷ [])) ≡ (f x || any f l)
+unfolding any
+any-snoc f [] x = refl
+any-snoc f (y ∷ l) x = ap (λ (b : Bool). f y || b) (any-snoc f l x) ∙ turn (f y) (f x) (any f l)
+  where
+    turn : (a b c : Bool) → (a || (b || c)) ≡ (b || (a || c))
+    turn true true c = refl
+    turn true false c = refl
+    turn false b c = refl
+
+pub any-take : (f : ℕ → Bool) (l : List ℕ) (i : ℕ) → i < length l → any f (take (i + 1) l) ≡ (f (getD l i 0) || any f (take i l))
+any-take f l i h = ap (λ (n : ℕ). any f (take n l)) (add-one i) ∙ ap (any f) (take-suc l i 0 h) ∙ any-snoc f (take i l) (getD l i 0)
+
+highest-snoc : (tops l : List ℕ) (x : ℕ) → highest tops (l ++ (x ∷ [])) ≡ max (getD tops x 0) (highest tops l)
+unfolding highest
+highest-snoc tops [] x = refl
+highest-snoc tops (y ∷ l) x = let e = highest-snoc tops l x in omega arith
+
+pub highest-take : (tops l : List ℕ) (i : ℕ) → i < length l → highest tops (take (i + 1) l) ≡ max (getD tops (getD l i 0) 0) (highest tops (take i l))
+highest-take tops l i h = ap (λ (n : ℕ). highest tops (take n l)) (add-one i) ∙ ap (highest tops) (take-suc l i 0 h) ∙ highest-snoc tops (take i l) (getD l i 0)

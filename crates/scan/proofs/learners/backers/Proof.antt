@@ -1,0 +1,60 @@
+use mathlib.Core.Path.{_≡_, _∙_}
+use mathlib.Core.Bool.{_&&_}
+use Prim.Native.Nat.{ℕ, _≤_, _<_, _-_}
+use lib.ListN.{getD}
+use lib.Dec.{eqb}
+use Rattle.base.specs.Tests.{any, below}
+use Rattle.base.specs.Sets.{has}
+use Rattle.scan.proofs.Loops.{put-again, any-done}
+use Rattle.scan.proofs.Membership.{has-zero}
+use Rattle.scan.specs.Arrays.{isBacker}
+use borrow.Author.Needs.{needs}
+use native.Mathlib.Omega.{arith}
+use Rattle.scan.proofs.learners.backers.Statement.{statement}
+use Rattle.scan.proofs.learners.backers.Tie as tie
+
+abbrev Inv-loop : tie.InvT-loop
+Inv-loop forms fresh tops signers n low high a ballot mask₀ j₀ mask j = (j ≤ n) × ((p : ℕ) → p < 32 → has mask p ≡ any (λ j. isBacker forms fresh tops low high a ballot j && eqb (getD signers j 0) p) (below j))
+
+abbrev μ-loop : tie.MeasureT-loop
+μ-loop forms fresh tops signers n low high a ballot mask₀ j₀ mask j = n - j
+
+loop-holds : tie.Need-loop-holds Inv-loop μ-loop
+unfolding any below
+loop-holds c = (omega arith, λ p h. has-zero p)
+
+is-backer-requires : tie.Need-is-backer-requires Inv-loop μ-loop
+is-backer-requires c κs = search needs
+
+shared-slice-read-with-acceptor : tie.Need-shared-slice-read-with-acceptor Inv-loop μ-loop
+shared-slice-read-with-acceptor c = search needs
+
+with-acceptor-requires : tie.Need-with-acceptor-requires Inv-loop μ-loop
+with-acceptor-requires c κs = search needs
+
+add-j : tie.Need-add-j Inv-loop μ-loop
+add-j c = search needs
+
+loop-less : tie.Need-loop-less Inv-loop μ-loop
+loop-less c = search needs
+
+loop-again : tie.Need-loop-again Inv-loop μ-loop
+loop-again c = let a = c .before .before .before .before .before .before .before .before .before .args in let l = c .before .before .before .before .loop in (omega arith, λ p h. put-again (isBacker (a .forms .now) (a .fresh .now) (a .tops .now) (a .low) (a .high) (a .a) (a .ballot)) (λ j. getD (a .signers .now) j 0) (l .j) p (c .before .before .is-backer .result) _ _ (c .with-acceptor .ensures p h) (c .before .before .is-backer .ensures) (l .inv .1 p h))
+
+returns : tie.Need-returns Inv-loop μ-loop
+returns c = let a = c .before .before .before .before .before .before .args in let l = c .before .loop in λ p h. l .inv .1 p h ∙ any-done (λ j. isBacker (a .forms .now) (a .fresh .now) (a .tops .now) (a .low) (a .high) (a .a) (a .ballot) j && eqb (getD (a .signers .now) j 0) p) (l .j) (a .n) (l .inv .0) (c .loop-test .left)
+
+pub backers-spec : {M : Type 1} → statement M
+backers-spec =
+    tie.close
+    (tie.spec
+    Inv-loop
+    μ-loop
+    loop-holds
+    is-backer-requires
+    shared-slice-read-with-acceptor
+    with-acceptor-requires
+    add-j
+    loop-less
+    loop-again
+    returns)

@@ -1,0 +1,64 @@
+use mathlib.Core.Path.{_≡_, ap, _∙_}
+use mathlib.Core.Bool.{_&&_}
+use Prim.Native.Nat.{ℕ, _≤_, _-_}
+use lib.Dec.{eqb}
+use Rattle.base.specs.Tests.{any, below}
+use Rattle.base.specs.Sets.{has}
+use Rattle.scan.proofs.Loops.{put-again, any-done}
+use Rattle.scan.proofs.Membership.{has-zero}
+use Rattle.scan.specs.Arrays.{isOpposed, isBarred}
+use Rattle.scan.specs.declared.Peaks.{Peaks}
+use borrow.Author.Needs.{needs}
+use native.Mathlib.Omega.{arith}
+use Rattle.scan.proofs.learners.opposing.Statement.{statement}
+use Rattle.scan.proofs.learners.opposing.Tie as tie
+
+abbrev Inv-loop : tie.InvT-loop
+Inv-loop forms learners signers tops n l low high signer v mask₀ b₀ mask b = (b ≤ l) × ((q : ℕ) → has mask q ≡ any (λ b. isBarred forms learners signers tops n low high signer v b && eqb b q) (below b))
+
+abbrev μ-loop : tie.MeasureT-loop
+μ-loop forms learners signers tops n l low high signer v mask₀ b₀ mask b = l - b
+
+loop-holds : tie.Need-loop-holds Inv-loop μ-loop
+unfolding any below
+loop-holds c = (omega arith, λ q. has-zero q)
+
+peaks-requires : tie.Need-peaks-requires Inv-loop μ-loop
+peaks-requires c κs = search needs
+
+is-barred-requires : tie.Need-is-barred-requires Inv-loop μ-loop
+is-barred-requires c κs = search needs
+
+with-learner-requires : tie.Need-with-learner-requires Inv-loop μ-loop
+with-learner-requires c κs = search needs
+
+add-b : tie.Need-add-b Inv-loop μ-loop
+add-b c = search needs
+
+loop-less : tie.Need-loop-less Inv-loop μ-loop
+loop-less c = search needs
+
+loop-again : tie.Need-loop-again Inv-loop μ-loop
+loop-again c = let a = c .before .before .before .before .before .before .before .before .before .args in let l = c .before .before .before .before .loop in (
+  omega arith,
+  λ q. put-again (isBarred (a .forms .now) (a .learners .now) (a .signers .now) (a .tops .now) (a .n) (a .low) (a .high) (a .signer) (a .v)) (λ b. b) (l .b) q (c .before .is-barred .result) _ _ (c .with-learner .ensures q)
+      (c .before .is-barred .ensures ∙ ap (λ (p : Peaks). any (isOpposed (a .forms .now) (a .learners .now) (a .signers .now) (a .tops .now) (a .low) (a .high) (l .b) (a .signer) (a .v) (p .best) (p .other)) (below (a .n))) (c .before .before .peaks .ensures)) (l .inv .1 q),
+)
+
+returns : tie.Need-returns Inv-loop μ-loop
+returns c = let a = c .before .before .before .before .before .before .args in let l = c .before .loop in λ q. l .inv .1 q ∙ any-done (λ b. isBarred (a .forms .now) (a .learners .now) (a .signers .now) (a .tops .now) (a .n) (a .low) (a .high) (a .signer) (a .v) b && eqb b q) (l .b) (a .l) (l .inv .0) (c .loop-test .left)
+
+pub opposing-spec : {M : Type 1} → statement M
+opposing-spec =
+    tie.close
+    (tie.spec
+    Inv-loop
+    μ-loop
+    loop-holds
+    peaks-requires
+    is-barred-requires
+    with-learner-requires
+    add-b
+    loop-less
+    loop-again
+    returns)

@@ -1,0 +1,79 @@
+// Sets as bits: places in two words, acceptors and learners in a mask.
+use crate::Places;
+ghost use mathlib.Core.Path.{_≡_};
+ghost use mathlib.Core.Bool.{_&&_, _||_};
+ghost use Prim.Native.Nat.{ℕ, _<_, max};
+ghost use lib.Dec.{eqb};
+ghost use Rattle.base.specs.Sets.{has};
+ghost use Rattle.scan.specs.PlaceSets.{inSet, meets};
+
+pub fn has_place(low: u64, high: u64, j: usize) -> bool
+    requires { ⌜ j < 128 ⌝ }
+    ensures { λ r. ⌜ r ≡ inSet low high j ⌝ }
+{
+    if j < 64 {
+        (low >> j) & 1 == 1
+    } else {
+        (high >> (j - 64)) & 1 == 1
+    }
+}
+
+// The set with place j, where `on`.
+pub fn with_place(low: u64, high: u64, j: usize, on: bool) -> Places
+    requires { ⌜ j < 128 ⌝ }
+    ensures { λ r. ⌜ ((q : ℕ) → q < 128 → inSet (r .low) (r .high) q ≡ ((on && eqb j q) || inSet low high q)) ⌝ }
+{
+    if !on {
+        return Places { low, high };
+    }
+    if j < 64 {
+        Places {
+            low: low | (1u64 << j),
+            high,
+        }
+    } else {
+        Places {
+            low,
+            high: high | (1u64 << (j - 64)),
+        }
+    }
+}
+
+// Whether two sets have a place in common.
+pub fn meet(low: u64, high: u64, other_low: u64, other_high: u64) -> bool
+    ensures { λ r. ⌜ r ≡ meets low high «other_low» «other_high» ⌝ }
+{
+    (low & other_low != 0) | (high & other_high != 0)
+}
+
+// The mask with acceptor p, where `on`. A signer that no mask can hold is in none.
+pub fn with_acceptor(mask: u32, p: u8, on: bool) -> u32
+    ensures { λ r. ⌜ ((q : ℕ) → q < 32 → has r q ≡ ((on && eqb p q) || has mask q)) ⌝ }
+{
+    if on & (p < 32) {
+        mask | (1u32 << p)
+    } else {
+        mask
+    }
+}
+
+pub fn has_learner(mask: u8, a: usize) -> bool
+    requires { ⌜ a < 8 ⌝ }
+    ensures { λ r. ⌜ r ≡ has mask a ⌝ }
+{
+    (mask >> a) & 1 == 1
+}
+
+// The mask with learner a, where `on`.
+pub fn with_learner(mask: u8, a: usize, on: bool) -> u8
+    requires { ⌜ a < 8 ⌝ }
+    ensures { λ r. ⌜ ((q : ℕ) → has r q ≡ ((on && eqb a q) || has mask q)) ⌝ }
+{
+    if on { mask | (1u8 << a) } else { mask }
+}
+
+pub fn larger(x: u64, y: u64) -> u64
+    ensures { λ r. ⌜ r ≡ max x y ⌝ }
+{
+    if x < y { y } else { x }
+}

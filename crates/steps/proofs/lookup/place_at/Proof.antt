@@ -1,0 +1,79 @@
+-- The invariant: no place below p has the id.
+use mathlib.Core.Path.{_≡_, refl, ap, sym, _∙_}
+use mathlib.Core.Bool.{Bool}
+use mathlib.Core.Option.{none}
+use mathlib.Core.List.{List}
+use Prim.Native.Nat.{ℕ, _-_, _*_, _≤_}
+use native.Mathlib.Numerals.{add-one}
+use Rattle.base.specs.Bytes.{part}
+use Rattle.protocol.specs.Ids.{sameId}
+use Rattle.round.specs.Held.{lowest}
+use Rattle.steps.specs.Lent.{foundOf}
+use Rattle.steps.proofs.Lent.{lowest-miss, lowest-hit}
+use borrow.Author.Needs.{needs}
+use native.Mathlib.Omega.{arith}
+use Rattle.steps.proofs.lookup.place_at.Statement.{statement}
+use Rattle.steps.proofs.lookup.place_at.Tie as tie
+
+-- place p has the id
+abbrev has : List ℕ → List ℕ → ℕ → ℕ → Bool
+has ids bytes at p = sameId (part 32 ids (32 * p)) (part 32 bytes at)
+
+abbrev Inv-loop : tie.InvT-loop
+Inv-loop ids held bytes at p₀ p = (p ≤ held) × (lowest (has ids bytes at) p ≡ none)
+
+abbrev μ-loop : tie.MeasureT-loop
+μ-loop ids held bytes at p₀ p = held - p
+
+loop-holds : tie.Need-loop-holds Inv-loop μ-loop
+unfolding lowest
+loop-holds c = (omega arith, refl)
+
+mul-same-id : tie.Need-mul-same-id Inv-loop μ-loop
+mul-same-id c = search needs
+
+same-id-requires : tie.Need-same-id-requires Inv-loop μ-loop
+same-id-requires c κs = search needs
+
+returns : tie.Need-returns Inv-loop μ-loop
+returns c =
+    let a = c .before .before .before .before .before .before .args in
+    let l = c .before .before .before .loop in
+    sym (ap foundOf (lowest-hit (has (a .ids .now) (a .bytes .now) (a .at)) (l .p) (a .held) (omega arith) (l .inv .1) (sym (c .before .same-id .ensures) ∙ c .if1 .taken)))
+
+add-p : tie.Need-add-p Inv-loop μ-loop
+add-p c = search needs
+
+loop-less : tie.Need-loop-less Inv-loop μ-loop
+loop-less c = search needs
+
+loop-again : tie.Need-loop-again Inv-loop μ-loop
+loop-again c =
+    let a = c .before .before .before .before .before .before .args in
+    let l = c .before .before .before .loop in
+    let f = has (a .ids .now) (a .bytes .now) (a .at) in (
+      omega arith,
+      ap (lowest f) (add-one (l .p)) ∙ lowest-miss f (l .p) (l .inv .1) (sym (c .before .same-id .ensures) ∙ c .if1 .left),
+    )
+
+returns-2 : tie.Need-returns-2 Inv-loop μ-loop
+returns-2 c =
+    let a = c .before .before .before .before .args in
+    let l = c .before .loop in
+    let e : l .p ≡ a .held = omega arith in
+    sym (ap foundOf (sym (ap (lowest (has (a .ids .now) (a .bytes .now) (a .at))) e) ∙ l .inv .1))
+
+pub place-at-spec : {M : Type 1} → statement M
+place-at-spec =
+    tie.close
+    (tie.spec
+    Inv-loop
+    μ-loop
+    loop-holds
+    mul-same-id
+    same-id-requires
+    returns
+    add-p
+    loop-less
+    loop-again
+    returns-2)

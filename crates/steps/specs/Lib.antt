@@ -1,0 +1,4 @@
+-- The tests of a round over its arrays, lent one by one
+pub mod Lent
+-- The reply over what a round lends
+pub mod Sender

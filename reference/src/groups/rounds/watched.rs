@@ -1,0 +1,198 @@
+//! A round that is followed: the model's, the bytes that the model foretells,
+//! and beside them the library's.
+
+use super::judged::{Answer, Judged, Verdict};
+use crate::tally::{Reached, Tally};
+use reference::handed_in;
+use reference::layout::{self, HELD, OWN};
+use reference::message::LONGEST;
+use reference::random::Random;
+use reference::refusal::{answer, Refusal};
+use reference::round::{self, Delivery, Report, Round, Step};
+
+/// What all comparisons share.
+pub struct Referee {
+    pub random: Random,
+    pub tally: Tally,
+    /// Calls on rounds that an opening led to, openings included.
+    pub opened: Counts,
+    /// Calls on rounds that were handed in damaged or made up.
+    pub handed_in: Counts,
+    /// Rounds that a site's traffic reached.
+    pub rounds: u64,
+}
+
+#[derive(Default)]
+pub struct Counts {
+    pub reached: Reached,
+    pub rounds: u64,
+    /// How many rounds passed row 17.
+    pub taken: u64,
+    pub deliveries: u64,
+    pub accepted: u64,
+    /// How many accepted messages had awaited their return.
+    pub returned: u64,
+    pub replies: u64,
+    pub reports: u64,
+    /// The length of the longest reply.
+    pub longest: usize,
+    /// How many reports said undecided, decided and split.
+    pub outcomes: [u64; 3],
+}
+
+#[derive(Clone, Copy)]
+enum Origin {
+    Opened,
+    HandedIn,
+}
+
+impl Referee {
+    pub fn new(random: Random) -> Self {
+        Referee {
+            random,
+            tally: Tally::default(),
+            opened: Counts::default(),
+            handed_in: Counts::default(),
+            rounds: 0,
+        }
+    }
+
+    fn counts(&mut self, origin: Origin) -> &mut Counts {
+        match origin {
+            Origin::Opened => &mut self.opened,
+            Origin::HandedIn => &mut self.handed_in,
+        }
+    }
+}
+
+impl Counts {
+    fn count_round(&mut self, taken: bool) {
+        self.rounds += 1;
+        self.taken += u64::from(taken);
+    }
+
+    fn count_delivery(&mut self, outcome: &Result<Delivery, Refusal>) {
+        self.deliveries += 1;
+        self.reached.count(answer(outcome));
+        if let Ok(delivery) = outcome {
+            self.accepted += 1;
+            self.returned += u64::from(delivery.returned);
+            if let Step::Replied(reply) = &delivery.step {
+                self.replies += 1;
+                self.longest = self.longest.max(reply.len());
+            }
+        }
+    }
+
+    fn count_report(&mut self, outcome: &Result<Report, Refusal>) {
+        self.reports += 1;
+        self.reached.count(answer(outcome));
+        match outcome {
+            Ok(Report::Undecided) => self.outcomes[0] += 1,
+            Ok(Report::Decided(_)) => self.outcomes[1] += 1,
+            Ok(Report::Split(..)) => self.outcomes[2] += 1,
+            Err(_) => {}
+        }
+    }
+}
+
+pub struct Watched {
+    origin: Origin,
+    /// A refusal where row 17 turns the round down, whatever it is asked.
+    pub model: Result<Round, Refusal>,
+    pub bytes: Vec<u8>,
+    judged: Option<Judged>,
+}
+
+impl Watched {
+    pub fn open(
+        referee: &mut Referee,
+        file: &[u8],
+        (house, bay, own): (u16, u16, Option<u32>),
+    ) -> Result<Self, Refusal> {
+        let model = round::open(file, house, bay, own);
+        let bytes = model.as_ref().map(layout::opened).map_err(|refusal| *refusal);
+        let (judged, verdict) = Judged::open(&mut referee.random, file, (house, bay, own), &bytes);
+        referee.opened.reached.count(answer(&model));
+        let agreed = verdict.is_ok();
+        referee.tally.judge(verdict, || format!("opening {file:02x?} as {own:?}"));
+        let bytes = bytes?;
+        referee.opened.count_round(true);
+        let judged = if agreed { judged } else { Judged::hand_in(&mut referee.random, &bytes) };
+        Ok(Watched { origin: Origin::Opened, model, bytes, judged })
+    }
+
+    pub fn hand_in(referee: &mut Referee, bytes: Vec<u8>) -> Self {
+        let model = handed_in::take(&bytes);
+        referee.handed_in.count_round(model.is_ok());
+        let judged = Judged::hand_in(&mut referee.random, &bytes);
+        Watched { origin: Origin::HandedIn, model, bytes, judged }
+    }
+
+    pub fn deliver(&mut self, referee: &mut Referee, message: &[u8]) -> Answer {
+        let room = match referee.random.below(100) {
+            0 => referee.random.below(LONGEST),
+            1 => LONGEST - 1,
+            _ => LONGEST + referee.random.below(20),
+        };
+        let held = HELD.number(&self.bytes, 0);
+        let outcome = match &mut self.model {
+            Ok(round) => round.deliver(message, room),
+            Err(refusal) => Err(*refusal),
+        };
+        if let (Ok(round), Ok(delivery)) = (&self.model, &outcome) {
+            layout::write_delivery(&mut self.bytes, round, delivery);
+        }
+        referee.counts(self.origin).count_delivery(&outcome);
+        let outcome = outcome.map(Delivery::reply);
+        if let Some(judged) = &mut self.judged {
+            let random = &mut referee.random;
+            let foretold = (&outcome, &self.bytes[..]);
+            let mut verdict = judged.deliver(random, (message, room), foretold);
+            if random.once_in(50) {
+                verdict = verdict.and_then(|()| judged.ask_short(random, message, &self.bytes));
+            }
+            self.settle(referee, verdict, |round| {
+                format!("delivery of {message:02x?} to {round} that held {held}")
+            });
+        }
+        outcome
+    }
+
+    pub fn report(&mut self, referee: &mut Referee, learner: u8) -> Result<Report, Refusal> {
+        let room = match referee.random.below(30) {
+            0 => referee.random.below(17),
+            _ => 17 + referee.random.below(8),
+        };
+        // A short buffer is the C interface's own 17.
+        let outcome = match (room, &self.model) {
+            (0..=16, _) => Err(Refusal::Argument),
+            (_, Ok(round)) => round.report(learner),
+            (_, Err(refusal)) => Err(*refusal),
+        };
+        referee.counts(self.origin).count_report(&outcome);
+        if let Some(judged) = &mut self.judged {
+            let foretold = (&outcome, &self.bytes[..]);
+            let verdict = judged.report(&mut referee.random, (learner, room), foretold);
+            self.settle(referee, verdict, |round| format!("report of {round} for {learner}"));
+        }
+        outcome
+    }
+
+    /// Counts a verdict; after a difference the library goes on from the model's bytes.
+    fn settle(
+        &mut self,
+        referee: &mut Referee,
+        verdict: Verdict,
+        call: impl FnOnce(&str) -> String,
+    ) {
+        if verdict.is_err() {
+            self.judged = Judged::hand_in(&mut referee.random, &self.bytes);
+        }
+        let own = OWN.number(&self.bytes, 0);
+        referee.tally.judge(verdict, || match self.origin {
+            Origin::Opened => call(&format!("an opened round of {own}")),
+            Origin::HandedIn => call(&format!("a round of {own} handed in")),
+        });
+    }
+}
