@@ -14,19 +14,18 @@ use Rattle.base.specs.Tests.{_∈_, any}
 use Rattle.base.proofs.Tests.{same-test, eq→eqb, or-l, or-r, or-out, and-cong}
 use Rattle.graph.specs.LearnerGraph.{LearnerGraph}
 use Rattle.protocol.specs.Ids.{Id, sameId, samePrevious}
-use Rattle.protocol.specs.Message.{Message, isProposal, tran, is1b, is2a, ballot, forks}
+use Rattle.protocol.specs.Message.{Message, is1b, is2a, ballot, forks}
 use Rattle.protocol.specs.Learners.{fresh, lrns}
-use Rattle.protocol.specs.WellFormed.{formed1b, formed2a}
 use Rattle.protocol.specs.Table.{Held, offers, Table, at, heldId, heldSigner, heldPrevious, offered, places, Ordered, nodeBy, tree, reach}
 use Rattle.protocol.specs.Places.{is1bAt, is2aAt, ballotAt}
 use Rattle.protocol.proofs.Table.{tree-is, node-cong, reach-is, reach-self, reach-le}
 use Rattle.protocol.proofs.Growth.{at-append, at-end, tree-append, reach-append, ordered-snoc, ordered-nil}
 use Rattle.protocol.proofs.Places.{is1b-at, is2a-at, ballotBy, ballot-at, forksHeld, forks-at}
 use Rattle.protocol.proofs.PlacesLearners.{lrns-at}
-use Rattle.derive.specs.declared.Note.{Note}
+use Rattle.derive.specs.declared.Worked.{Worked}
 use Rattle.scan.specs.PlaceSets.{inSet}
 use Rattle.scan.specs.Arrays.{Whole, isOffer}
-use Rattle.derive.specs.Notes.{Noted, Known, Told, Judged}
+use Rattle.derive.specs.Notes.{Noted, Known, Told}
 use Rattle.scan.proofs.Membership.{has-zero, in-zero}
 
 -- ---- the notes of a place stay right
@@ -48,7 +47,7 @@ noted-grows G t u ord i l h =
     e = tree-append t u ord i l
 
 -- ---- what was worked out, with the place itself put in
-pub noted-told : (G : LearnerGraph) (u : Table) → Ordered u → (n : ℕ) → n < 128 → (r : Note) → Told G u n r → (low high : ℕ)
+pub noted-told : (G : LearnerGraph) (u : Table) → Ordered u → (n : ℕ) → n < 128 → (r : Worked) → Told G u n r → (low high : ℕ)
     → ((q : ℕ) → q < 128 → inSet low high q ≡ (eqb n q || inSet (r .beneath .low) (r .beneath .high) q))
     → Noted G u n low high (r .forks .low) (r .forks .high) (r .ballot) (r .learners) (r .fresh) (r .form)
 noted-told G u ord n small r h low high w =
@@ -180,15 +179,3 @@ pub new-message : (t : Table) (h : Held) → Ordered t → ((j : ℕ) → j ∈ 
 new-message t h ord back =
     tree-is (t ++ h ∷ []) (ordered-snoc t h ord back) (length t) ∙ ap (nodeBy (tree (t ++ h ∷ []))) (at-end t h)
     ∙ node-cong (tree (t ++ h ∷ [])) (tree t) h (λ j m. tree-append t (h ∷ []) ord j (back j m))
-
-pub judged-told : (G : LearnerGraph) (t : Table) (h : Held) → Ordered t → ((j : ℕ) → j ∈ places h → j < length t) → (n : ℕ) → length t ≡ n → (r : Note)
-    → Told G (t ++ h ∷ []) n r → Judged G (nodeBy (tree t) h) r
-judged-told G t h ord back n size r k =
-    record {
-      grounded = k .grounded ∙ ap (λ (m : Message). any isProposal (tran m)) e;
-      formed1 = k .formed1 ∙ ap formed1b e;
-      formed2 = k .formed2 ∙ ap (formed2a G) e;
-    }
-  where
-    e : tree (t ++ h ∷ []) n ≡ nodeBy (tree t) h
-    e = ap (tree (t ++ h ∷ [])) (sym size) ∙ new-message t h ord back

@@ -4,6 +4,8 @@ pub mod Working
 pub mod Growing
 -- One place more of the pass
 pub mod Passing
+-- The places that fork
+pub mod Marking
 -- The report from the notes
 pub mod Verdicts
 -- Names and ids

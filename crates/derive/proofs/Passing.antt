@@ -12,7 +12,7 @@ use Rattle.base.specs.Tests.{_∈_}
 use Rattle.graph.specs.LearnerGraph.{LearnerGraph}
 use Rattle.protocol.specs.Table.{Held, says, tabulate, places, Ordered}
 use Rattle.protocol.proofs.Growth.{ordered-snoc, ordered-nil, length-tabulate, at-tabulate}
-use Rattle.derive.specs.declared.Note.{Note}
+use Rattle.derive.specs.declared.Worked.{Worked}
 use Rattle.scan.specs.PlaceSets.{inSet}
 use Rattle.scan.specs.Arrays.{Whole, isOffer, idIn, Named}
 use Rattle.derive.specs.Records.{namedIn, referencesIn, recordIn, Fit}
@@ -53,7 +53,7 @@ module _ (G : LearnerGraph) (ids kinds signers ballots previous counts reference
       candidate ids kinds signers ballots previous counts references n p fit (omega arith) names h (idIn ids p) (getD names p 0) y ps (h .each p l)
       (subst (λ (k : ℕ). (k ≡ 255) ⊎ (k < n)) (sym ey) (fit .named p l)) (λ j m. fit .back p l acc j (subst (λ (x : List ℕ). j ∈ x) eps m))
 
-  pub held-noted : (p : ℕ) → p < n → isOffer kinds p ≡ false → (y : ℕ) → y ≡ getD previous p 0 → (ps : List ℕ) → ps ≡ referencesIn counts references p → (r : Note)
+  pub held-noted : (p : ℕ) → p < n → isOffer kinds p ≡ false → (y : ℕ) → y ≡ getD previous p 0 → (ps : List ℕ) → ps ≡ referencesIn counts references p → (r : Worked)
       → Told G (tabulate p f ++ says (idIn ids p) (getD signers p 0) (namedIn ids y) ps ∷ []) p r → (low high : ℕ)
       → ((q : ℕ) → q < 128 → inSet low high q ≡ (eqb p q || inSet (r .beneath .low) (r .beneath .high) q))
       → Noted G (tabulate (suc p) f) p low high (r .forks .low) (r .forks .high) (r .ballot) (r .learners) (r .fresh) (r .form)
@@ -72,7 +72,7 @@ module _ (G : LearnerGraph) (ids kinds signers ballots previous counts reference
 
   pub pass-more : (p : ℕ) → p < n → (low high forkLow forkHigh tops learners freshes forms : List ℕ)
       → Whole low → Whole high → Whole forkLow → Whole forkHigh → Whole tops → Whole learners → Whole freshes → Whole forms
-      → Known G (tabulate p f) kinds signers low high forkLow forkHigh tops learners freshes forms → (r : Note) → NotedBy G (tabulate (suc p) f) p r
+      → Known G (tabulate p f) kinds signers low high forkLow forkHigh tops learners freshes forms → (r : Worked) → NotedBy G (tabulate (suc p) f) p r
       → Known G (tabulate (p + 1) f) kinds signers (set low p (r .beneath .low)) (set high p (r .beneath .high)) (set forkLow p (r .forks .low)) (set forkHigh p (r .forks .high))
       (set tops p (r .ballot)) (set learners p (r .learners)) (set freshes p (r .fresh)) (set forms p (r .form))
   unfolding tabulate

@@ -19,8 +19,9 @@ use Rattle.graph.proofs.LearnerGraph.{quorum-cong, without-cong}
 use Rattle.protocol.specs.Ids.{Id, sameId, samePrevious}
 use Rattle.protocol.specs.Message.{Message, isProposal, is1b, is2a, tran, ballot, value, forks}
 use Rattle.protocol.specs.Learners.{fresh, lrns}
-use Rattle.protocol.specs.Table.{Held, says, Table, at, heldId, heldSigner, heldPrevious, offered, places, Ordered, tree, reach}
-use Rattle.protocol.specs.Places.{is1bAt, is2aAt, ballotAt, valueAt, caughtAt, formed1bAt, conAt, buriedAt, freshAt, lrnsAt, formed2aAt}
+use Rattle.protocol.specs.WellFormed.{formed1b, formed2a}
+use Rattle.protocol.specs.Table.{Held, says, Table, at, heldId, heldSigner, heldPrevious, offered, places, Ordered, nodeBy, tree, reach}
+use Rattle.protocol.specs.Places.{is1bAt, is2aAt, ballotAt, valueAt, caughtAt, formed1bAt, conAt, buriedAt, freshAt, lrnsAt}
 use Rattle.protocol.proofs.Ids.{sameId-law, samePrevious-law}
 use Rattle.protocol.proofs.Table.{tree-proposal, reach-is, reach-self, reach-le}
 use Rattle.protocol.proofs.Growth.{at-append, at-end, tree-append, reach-append, ordered-snoc}
@@ -30,12 +31,14 @@ use Rattle.protocol.proofs.Places as law
 use Rattle.protocol.proofs.PlacesLearners.{con-at, buried-at, fresh-at, lrns-at, formed2a-at}
 use Rattle.scan.specs.PlaceSets.{inSet, meets}
 use Rattle.scan.specs.Arrays.{highest, isOffer, Beneath, isFork, isCaught, isVote, voteBallot, peaksOf, isBuried, isOpposed, isBarred, isBacker, backedBy, isCrowding}
-use Rattle.derive.specs.Notes.{Known, Candidate, Told}
+use Rattle.derive.specs.declared.Worked.{Worked}
+use Rattle.derive.specs.Notes.{Known, Candidate, Told, Judged}
 use Rattle.base.proofs.Bits.{some-bit}
 use native.Mathlib.Nat.{pow-suc}
 use Rattle.scan.proofs.Membership.{has-zero}
 use Rattle.scan.proofs.Loops.{any-at}
 use Rattle.scan.proofs.Burying.{buried-by-peaks}
+use Rattle.derive.proofs.Growing.{new-message}
 
 -- ---- forks of records
 fork-signer : (x y : Held) → T (forksHeld x y) → heldSigner x ≡ heldSigner y
@@ -348,34 +351,6 @@ module _ (G : LearnerGraph) (t : Table) (kinds signers names previous low high f
                   let d : k ≡ j = omega arith in
                   absurd (fork-other (at u j) (subst (λ (z : ℕ). T (forksHeld (at u j) (at u z))) d f))
 
-    -- ---- a proposal beneath
-    grounded-told : any (λ j. inSet lo hi j && isOffer kinds j) (below n) ≡ any isProposal (tran (tree u n))
-    unfolding offered
-    grounded-told =
-        any-cong (λ j. inSet lo hi j && isOffer kinds j) (λ j. reach u n j && isProposal (tree u j)) (below n)
-        (λ j m. ap₂ _&&_ (beneath-told j (below-out n m)) (kind-is j (below-out n m) ∙ sym (tree-proposal u j)))
-        ∙ sym (any-beneath u ord n isProposal (subst (λ (x : Bool). T (not x)) (sym (tree-proposal u n ∙ ap offered at-new)) tt) n (omega arith))
-
-    -- ---- a well-formed 1b
-    formed1-told : (not o || not (any (isCrowding kinds names tops lo hi name bal) (below n))) ≡ formed1bAt u n
-    unfolding heldId
-    formed1-told =
-        ap₂ (λ (x y : Bool). not x || not y) (sym first-told)
-        (any-cong (isCrowding kinds names tops lo hi name bal) (λ j. not (g j)) (below n) (λ j m. step j (below-out n m)) ∙ any-not-all (λ j. not (g j)) g (below n) (λ j. refl))
-        ∙ ap (λ (x : Bool). not (is1bAt u n) || x) (not-not (all g (below n)))
-        ∙ sym (formed1b-at u ord n n (omega arith))
-      where
-        g : ℕ → Bool
-        g j = not (reach u n j) || (sameId (heldId (at u j)) (heldId (at u n)) || not (eqb (ballotAt u j) (ballotAt u n)) || offered (at u j))
-
-        same : (j : ℕ) (l : j < n) → eqb (getD names j 0) name ≡ sameId (heldId (at u j)) (heldId (at u n))
-        same j l = id-is j l ∙ ap (λ (r : Held). sameId (heldId (at u j)) (heldId r)) (sym at-new)
-
-        step : (j : ℕ) (l : j < n) → isCrowding kinds names tops lo hi name bal j ≡ not (g j)
-        step j l =
-            (λ e. beneath-told j l e && not (same j l e) && eqb (top-is j l e) (ballot-told e) && not (kind-is j l e))
-            ∙ denied (reach u n j) (sameId (heldId (at u j)) (heldId (at u n))) (eqb (ballotAt u j) (ballotAt u n)) (offered (at u j))
-
     -- ---- lrns
     module _ (mask : ℕ) (k : ℕ) (hk : k ≡ pick (not o) (G .learners) 0)
         (hl : (q : ℕ) → has mask q ≡ any (λ a. isQuorum G a (backedBy forms freshes tops signers n lo hi bal a) && eqb a q) (below k)) where
@@ -410,24 +385,12 @@ module _ (G : LearnerGraph) (t : Table) (kinds signers names previous low high f
           ∙ ap (λ (z : Bool). z && isQuorum G a (backedBy forms freshes tops signers n lo hi bal a)) (within a la (not o) hk)
           ∙ quorum-told a la
 
-      formed2-told : (o || not (eqb mask 0)) ≡ formed2aAt u G n
-      formed2-told = cases o hk ∙ ap (λ (z : Bool). not z || any (lrnsAt u G n) (below (G .learners))) (sym second-told) ∙ sym (formed2a-at u G n)
+      outside : (a : ℕ) → T (has mask a) → a < G .learners
+      outside a h = let g = member a h in let e = fewer (not o) hk in omega arith
         where
-          cases : (z : Bool) → k ≡ pick (not z) (G .learners) 0 → (z || not (eqb mask 0)) ≡ (not (not z) || any (lrnsAt u G n) (below (G .learners)))
-          cases true e = refl
-          cases false e = same-test _ _ to from
-            where
-              to : T (not (eqb mask 0)) → T (any (lrnsAt u G n) (below (G .learners)))
-              to h =
-                  let (a, m) = some-member mask h in
-                  let l : a < G .learners = let g = member a m in omega arith in
-                  any-in (lrnsAt u G n) {x = a} (below-in (G .learners) l) (subst T (learning-told a l) m)
-
-              from : T (any (lrnsAt u G n) (below (G .learners))) → T (not (eqb mask 0))
-              from h =
-                  let (a, m, q) = any-out (lrnsAt u G n) (below (G .learners)) h in
-                  let r : T (has mask a) = subst T (sym (learning-told a (below-out (G .learners) m))) q in
-                  not-T (eqb mask 0) (λ e. subst T (has-zero a) (subst (λ (x : ℕ). T (has x a)) (eqb→eq mask 0 e) r))
+          fewer : (z : Bool) → k ≡ pick z (G .learners) 0 → k ≤ G .learners
+          fewer true e = omega arith
+          fewer false e = omega arith
 
     -- ---- fresh
     module _ (mask against free k v : ℕ) (hv : v ≡ valueOf bal) (hk : k ≡ pick o (G .learners) 0) (hc : (p : ℕ) → p < G .acceptors → has mask p ≡ caughtAt u n p)
@@ -545,8 +508,8 @@ module _ (G : LearnerGraph) (t : Table) (kinds signers names previous low high f
             ∙ same-test (not (any bars (below (G .learners)))) (all agrees (below n)) to from
             ∙ sym (fresh-at u G ord n n (omega arith) one a)
 
-    -- ---- the whole note
-    pub told : (fl fh others mask against free learned firsts seconds v form : ℕ) (crowded grounded : Bool) → G .acceptors ≤ 32
+    -- ---- all that is worked out
+    pub told : (fl fh others mask against free learned firsts seconds v form : ℕ) → G .acceptors ≤ 32
         → ((q : ℕ) → q < 128 → inSet fl fh q ≡ any (λ j. isFork kinds signers names previous sig name link j && eqb j q) (below n))
         → ((p : ℕ) → p < 32 → has others p ≡ any (λ j. isCaught forkLow forkHigh lo hi j && eqb (getD signers j 0) p) (below n))
         → ((p : ℕ) → p < 32 → has mask p ≡ ((meets lo hi fl fh && eqb sig p) || has others p))
@@ -555,22 +518,9 @@ module _ (G : LearnerGraph) (t : Table) (kinds signers names previous low high f
         → ((q : ℕ) → has free q ≡ any (λ a. not (any (λ b. safeWithout G a b (has mask) && has against b) (below (G .learners))) && eqb a q) (below firsts))
         → seconds ≡ pick (not o) (G .learners) 0
         → ((q : ℕ) → has learned q ≡ any (λ a. isQuorum G a (backedBy forms freshes tops signers n lo hi bal a) && eqb a q) (below seconds))
-        → crowded ≡ any (isCrowding kinds names tops lo hi name bal) (below n)
-        → grounded ≡ any (λ j. inSet lo hi j && isOffer kinds j) (below n)
         → form ≡ pick o 1 2
-        → Told G u n (record {
-          beneath = record { low = lo; high = hi };
-          forks = record { low = fl; high = fh };
-          ballot = bal;
-          caught = mask;
-          learners = learned;
-          fresh = free;
-          form = form;
-          grounded = grounded;
-          formed1b = not o || not crowded;
-          formed2a = o || not (eqb learned 0);
-        })
-    told fl fh others mask against free learned firsts seconds v form crowded grounded few hf ho hm hk hv ha hr hs hl hc hg hform =
+        → Told G u n (record { beneath = record { low = lo; high = hi }; forks = record { low = fl; high = fh }; ballot = bal; learners = learned; fresh = free; form = form })
+    told fl fh others mask against free learned firsts seconds v form few hf ho hm hk hv ha hr hs hl hform =
         record {
           reaches = beneath-told;
           none = none-told;
@@ -578,12 +528,9 @@ module _ (G : LearnerGraph) (t : Table) (kinds signers names previous low high f
           ballot = ballot-told;
           first = ap (λ (x : ℕ). eqb x 1) hform ∙ firsts-form o ∙ sym first-told;
           second = ap (λ (x : ℕ). eqb x 2) hform ∙ seconds-form o ∙ sym second-told;
-          caught = caught;
           learning = learning-told learned seconds hs hl;
+          within = outside learned seconds hs hl;
           freshly = λ a la one. fresh-told mask against free firsts v hv hk caught ha hr one a la;
-          grounded = hg ∙ grounded-told;
-          formed1 = ap (λ (x : Bool). not o || not x) hc ∙ formed1-told;
-          formed2 = formed2-told learned seconds hs hl;
         }
       where
         caught : (p : ℕ) → p < G .acceptors → has mask p ≡ caughtAt u n p
@@ -596,3 +543,66 @@ module _ (G : LearnerGraph) (t : Table) (kinds signers names previous low high f
         seconds-form : (z : Bool) → eqb (pick z 1 2) 2 ≡ not z
         seconds-form true = refl
         seconds-form false = refl
+
+  -- ---- a new message is judged by what was worked out for it
+  module _ (r : Worked) (w : Told G u n r) where
+    abbrev lo : ℕ
+    lo = r .beneath .low
+
+    abbrev hi : ℕ
+    hi = r .beneath .high
+
+    -- a proposal beneath
+    grounded-told : any (λ j. inSet lo hi j && isOffer kinds j) (below n) ≡ any isProposal (tran (tree u n))
+    unfolding offered
+    grounded-told =
+        any-cong (λ j. inSet lo hi j && isOffer kinds j) (λ j. reach u n j && isProposal (tree u j)) (below n)
+        (λ j m. ap₂ _&&_ (w .reaches j (below-out n m)) (kind-is j (below-out n m) ∙ sym (tree-proposal u j)))
+        ∙ sym (any-beneath u ord n isProposal (subst (λ (x : Bool). T (not x)) (sym (tree-proposal u n ∙ ap offered at-new)) tt) n (omega arith))
+
+    -- a well-formed 1b
+    formed1-told : (not (eqb (r .form) 1) || not (any (isCrowding kinds names tops lo hi name (r .ballot)) (below n))) ≡ formed1bAt u n
+    unfolding heldId
+    formed1-told =
+        ap₂ (λ (x y : Bool). not x || not y) (w .first)
+        (any-cong (isCrowding kinds names tops lo hi name (r .ballot)) (λ j. not (g j)) (below n) (λ j m. step j (below-out n m)) ∙ any-not-all (λ j. not (g j)) g (below n) (λ j. refl))
+        ∙ ap (λ (x : Bool). not (is1bAt u n) || x) (not-not (all g (below n)))
+        ∙ sym (formed1b-at u ord n n (omega arith))
+      where
+        g : ℕ → Bool
+        g j = not (reach u n j) || (sameId (heldId (at u j)) (heldId (at u n)) || not (eqb (ballotAt u j) (ballotAt u n)) || offered (at u j))
+
+        same : (j : ℕ) (l : j < n) → eqb (getD names j 0) name ≡ sameId (heldId (at u j)) (heldId (at u n))
+        same j l = id-is j l ∙ ap (λ (r : Held). sameId (heldId (at u j)) (heldId r)) (sym at-new)
+
+        step : (j : ℕ) (l : j < n) → isCrowding kinds names tops lo hi name (r .ballot) j ≡ not (g j)
+        step j l =
+            (λ e. w .reaches j l e && not (same j l e) && eqb (top-is j l e) (w .ballot e) && not (kind-is j l e))
+            ∙ denied (reach u n j) (sameId (heldId (at u j)) (heldId (at u n))) (eqb (ballotAt u j) (ballotAt u n)) (offered (at u j))
+
+    -- a well-formed 2a
+    learners-told : not (eqb (r .learners) 0) ≡ any (lrnsAt u G n) (below (G .learners))
+    learners-told = same-test _ _ to from
+      where
+        to : T (not (eqb (r .learners) 0)) → T (any (lrnsAt u G n) (below (G .learners)))
+        to h =
+            let (a, m) = some-member (r .learners) h in
+            let l = w .within a m in
+            any-in (lrnsAt u G n) {x = a} (below-in (G .learners) l) (subst T (w .learning a l) m)
+
+        from : T (any (lrnsAt u G n) (below (G .learners))) → T (not (eqb (r .learners) 0))
+        from h =
+            let (a, m, q) = any-out (lrnsAt u G n) (below (G .learners)) h in
+            let k : T (has (r .learners) a) = subst T (sym (w .learning a (below-out (G .learners) m))) q in
+            not-T (eqb (r .learners) 0) (λ e. subst T (has-zero a) (subst (λ (x : ℕ). T (has x a)) (eqb→eq (r .learners) 0 e) k))
+
+    pub judged : (crowded grounded : Bool) → crowded ≡ any (isCrowding kinds names tops lo hi name (r .ballot)) (below n) → grounded ≡ any (λ j. inSet lo hi j && isOffer kinds j) (below n)
+        → Judged G (nodeBy (tree t) new) (record { grounded = grounded; formed1b = not (eqb (r .form) 1) || not crowded; formed2a = not (eqb (r .form) 2) || not (eqb (r .learners) 0) })
+    unfolding places
+    judged crowded grounded hc hg =
+        let e : tree u n ≡ nodeBy (tree t) new = ap (tree u) (sym size) ∙ new-message t new (kn .ordered) (λ j m. ca .earlier j m) in
+        record {
+          grounded = hg ∙ grounded-told ∙ ap (λ (m : Message). any isProposal (tran m)) e;
+          formed1 = ap (λ (x : Bool). not (eqb (r .form) 1) || not x) hc ∙ formed1-told ∙ ap formed1b e;
+          formed2 = ap₂ (λ (x y : Bool). not x || y) (w .second) learners-told ∙ sym (formed2a-at u G n) ∙ ap (formed2a G) e;
+        }

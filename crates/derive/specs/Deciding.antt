@@ -38,6 +38,10 @@ isDeciding G known forms learners tops signers n a other v j =
 unfoldable pub lowered : Least → Bool → ℕ → Least
 lowered p on x = pick (on && (not (p .found) || ltb x (p .ballot))) (record { found = true; ballot = x }) p
 
+-- place j holds a known 2a of a lower ballot than the least so far, and where `other`, of another value than v: what is asked before the quorum
+abbrev pub isLower : List ℕ → List ℕ → List ℕ → Least → Bool → ℕ → ℕ → Bool
+isLower known forms tops p other v j = isKnown2a known forms j && (not other || not (eqb (valueOf (getD tops j 0)) v)) && (not (p .found) || ltb (getD tops j 0) (p .ballot))
+
 unfoldable pub leastOf : (ℕ → Bool) → (ℕ → ℕ) → ℕ → Least
 leastOf test f zero = record { found = false; ballot = 0 }
 leastOf test f (suc n) = lowered (leastOf test f n) (test n) (f n)

@@ -15,7 +15,8 @@ use Rattle.protocol.specs.Ids.{Id, sameId, samePrevious}
 use Rattle.protocol.specs.Message.{Message, isProposal, forks, tran}
 use Rattle.protocol.specs.WellFormed.{formed1b, formed2a}
 use Rattle.protocol.specs.Table.{Table, at, heldId, heldSigner, heldPrevious, offered, Ordered, tree, reach}
-use Rattle.protocol.specs.Places.{is1bAt, is2aAt, ballotAt, caughtAt, formed1bAt, freshAt, lrnsAt, formed2aAt}
+use Rattle.protocol.specs.Places.{is1bAt, is2aAt, ballotAt, freshAt, lrnsAt}
+use Rattle.derive.specs.declared.Worked.{Worked}
 use Rattle.derive.specs.declared.Note.{Note}
 use Rattle.scan.specs.PlaceSets.{inSet}
 use Rattle.scan.specs.Arrays.{Whole, isOffer}
@@ -31,7 +32,7 @@ pub record Noted (G : LearnerGraph) (t : Table) (i low high forkLow forkHigh top
   pub learning : (a : ℕ) → a < G .learners → has learners a ≡ lrnsAt t G i a
   pub freshly : (a : ℕ) → a < G .learners → T (is1bAt t i) → has fresh a ≡ freshAt t G a i
 
-abbrev pub NotedBy : LearnerGraph → Table → ℕ → Note → Type 0
+abbrev pub NotedBy : LearnerGraph → Table → ℕ → Worked → Type 0
 NotedBy G t i r = Noted G t i (r .beneath .low) (r .beneath .high) (r .forks .low) (r .forks .high) (r .ballot) (r .learners) (r .fresh) (r .form)
 
 -- ---- the notes of all places of t are right
@@ -50,25 +51,26 @@ pub record Candidate (t : Table) (names previous places : List ℕ) (id : Id) (p
   pub linked : (j : ℕ) → j < length t → T (not (offered (at t j))) → eqb (getD names (getD previous j 0) 0) link ≡ samePrevious (heldPrevious (at t j)) prev
 
 -- ---- what is worked out for place i of t is right, but that the place itself is left out of what it reaches
-pub record Told (G : LearnerGraph) (t : Table) (i : ℕ) (r : Note) : Type 0 where
+pub record Told (G : LearnerGraph) (t : Table) (i : ℕ) (r : Worked) : Type 0 where
   pub reaches : (j : ℕ) → j < i → inSet (r .beneath .low) (r .beneath .high) j ≡ reach t i j
   pub none : (j : ℕ) → i ≤ j → j < 128 → T (inSet (r .beneath .low) (r .beneath .high) j) → ⊥
   pub forking : (j : ℕ) → j < 128 → inSet (r .forks .low) (r .forks .high) j ≡ (ltb j i && forks (tree t j) (tree t i))
   pub ballot : r .ballot ≡ ballotAt t i
   pub first : eqb (r .form) 1 ≡ is1bAt t i
   pub second : eqb (r .form) 2 ≡ is2aAt t i
-  pub caught : (p : ℕ) → p < G .acceptors → has (r .caught) p ≡ caughtAt t i p
   pub learning : (a : ℕ) → a < G .learners → has (r .learners) a ≡ lrnsAt t G i a
+  pub within : (a : ℕ) → T (has (r .learners) a) → a < G .learners
   pub freshly : (a : ℕ) → a < G .learners → T (is1bAt t i) → has (r .fresh) a ≡ freshAt t G a i
-  pub grounded : r .grounded ≡ any isProposal (tran (tree t i))
-  pub formed1 : r .formed1b ≡ formed1bAt t i
-  pub formed2 : r .formed2a ≡ formed2aAt t G i
 
 -- ---- what is asked of a message m before it is taken or sent
 pub record Judged (G : LearnerGraph) (m : Message) (r : Note) : Type 0 where
   pub grounded : r .grounded ≡ any isProposal (tran m)
   pub formed1 : r .formed1b ≡ formed1b m
   pub formed2 : r .formed2a ≡ formed2a G m
+
+-- ---- each of the first n places that forks with one before it is in the set
+abbrev pub Marked : ℕ → List ℕ → List ℕ → ℕ → ℕ → Type 0
+Marked n forkLow forkHigh low high = (j k : ℕ) → j < n → k < 128 → T (inSet (getD forkLow j 0) (getD forkHigh j 0) k) → T (inSet low high j)
 
 -- ---- numbers and lengths in range
 pub record Ready (acceptors l n : ℕ) (counts masks kinds signers names previous low high forkLow forkHigh tops learners fresh forms places : List ℕ) : Type 0 where

@@ -6,20 +6,22 @@ pub mod pass;
 pub mod report;
 pub mod step;
 
-// What is worked out for a message.
-pub struct Note {
-    // The places that it reaches, itself left out.
+// What is worked out for a message, held or new.
+pub struct Worked {
+    // The places that it reaches.
     pub beneath: Places,
     // The places before it that fork with it.
     pub forks: Places,
     pub ballot: u64,
-    // The acceptors caught beneath it.
-    pub caught: u32,
     // The learners of a 2a, and those that a 1b is fresh for.
     pub learners: u8,
     pub fresh: u8,
     // 0: a proposal; 1: a 1b; 2: a 2a.
     pub form: u8,
+}
+
+// What is asked of a new message before it is taken or sent.
+pub struct Note {
     // Whether a proposal lies beneath it, and whether it is well-formed as a 1b and as a 2a.
     pub grounded: bool,
     pub formed1b: bool,

@@ -1,10 +1,13 @@
 // The pass over the places of a round, in order: each is worked out from the notes of those before it, and its notes are put down.
 use crate::Note;
 use crate::Notes;
+use crate::Worked;
 use crate::step::step;
 use base::size;
 use graph::Mask;
 use scan::Places;
+use scan::beneath::is_crowded;
+use scan::beneath::is_grounded;
 use scan::names::name_of;
 use scan::names::names_of;
 use scan::sets::with_place;
@@ -18,7 +21,10 @@ ghost use Rattle.graph.specs.Held.{heldGraph, Sized};
 ghost use Rattle.protocol.specs.Table.{says, nodeBy, tree};
 ghost use Rattle.scan.specs.Arrays.{Whole, Named};
 ghost use Rattle.derive.specs.Records.{namedIn, tableIn, Fit, Lengths};
-ghost use Rattle.derive.specs.Notes.{NotedBy, Known, Judged, Ready};
+ghost use Rattle.derive.specs.Notes.{NotedBy, Known, Judged, Marked, Ready};
+
+// All places of a word: for a new message, any place may be one that forks.
+const EVERY: u64 = 18446744073709551615;
 
 // The held message at place p, with the place itself among those that it reaches.
 fn note_held<'a>(
@@ -43,9 +49,10 @@ fn note_held<'a>(
     l: usize,
     n: usize,
     p: usize,
-) -> Note
+    forked: Places,
+) -> Worked
     requires { ⌜ (p < n) × (Fit n (now kinds) (now previous) (now counts) (now references) × (Whole (now ballots) × (Whole (now counts) × ((length (now references) ≡ 16384)
-        × Ready acceptors l n (now lists) (now masks) (now kinds) (now signers) (now names) (now previous) (now low) (now high) (now forklow) (now forkhigh) (now tops) (now learners) (now fresh) (now forms) [])))) ⌝ }
+        × (Ready acceptors l n (now lists) (now masks) (now kinds) (now signers) (now names) (now previous) (now low) (now high) (now forklow) (now forkhigh) (now tops) (now learners) (now fresh) (now forms) [] × Marked p (now forklow) (now forkhigh) (forked .low) (forked .high)))))) ⌝ }
     ensures { λ r. ⌜ ((ids : List ℕ) → Named ids n (now (names .entry))
         → Known (heldGraph acceptors l (now (lists .entry)) (now (masks .entry))) (tableIn ids (now (kinds .entry)) (now (signers .entry)) (now (ballots .entry)) (now (previous .entry)) (now (counts .entry)) (now (references .entry)) p) (now (kinds .entry)) (now (signers .entry)) (now (low .entry)) (now (high .entry)) (now (forklow .entry)) (now (forkhigh .entry)) (now (tops .entry)) (now (learners .entry)) (now (fresh .entry)) (now (forms .entry))
         → NotedBy (heldGraph acceptors l (now (lists .entry)) (now (masks .entry))) (tableIn ids (now (kinds .entry)) (now (signers .entry)) (now (ballots .entry)) (now (previous .entry)) (now (counts .entry)) (now (references .entry)) (suc p)) p r) ⌝ }
@@ -53,17 +60,13 @@ fn note_held<'a>(
     if kinds[p] == 1 {
         let alone = with_place(0, 0, p, true);
         let none = Places { low: 0, high: 0 };
-        return Note {
+        return Worked {
             beneath: alone,
             forks: none,
             ballot: ballots[p],
-            caught: 0,
             learners: 0,
             fresh: 0,
             form: 0,
-            grounded: true,
-            formed1b: true,
-            formed2a: true,
         };
     }
     let from = 128 * p;
@@ -91,21 +94,18 @@ fn note_held<'a>(
         signers[p],
         names[p],
         names[at],
+        forked,
     );
     let b = r.beneath;
     let beneath = with_place(b.low, b.high, p, true);
     let forks = r.forks;
-    Note {
+    Worked {
         beneath,
         forks,
         ballot: r.ballot,
-        caught: r.caught,
         learners: r.learners,
         fresh: r.fresh,
         form: r.form,
-        grounded: r.grounded,
-        formed1b: r.formed1b,
-        formed2a: r.formed2a,
     }
 }
 
@@ -138,6 +138,7 @@ pub fn work_out<'a>(
     let mut learners = [0u8; 128];
     let mut fresh = [0u8; 128];
     let mut forms = [0u8; 128];
+    let mut forked = Places { low: 0, high: 0 };
     let mut p: usize = 0;
     while p < n {
         let r = note_held(
@@ -162,6 +163,7 @@ pub fn work_out<'a>(
             l,
             n,
             p,
+            forked,
         );
         let b = r.beneath;
         let f = r.forks;
@@ -173,6 +175,7 @@ pub fn work_out<'a>(
         learners[p] = r.learners;
         fresh[p] = r.fresh;
         forms[p] = r.form;
+        forked = with_place(forked.low, forked.high, p, (f.low != 0) | (f.high != 0));
         p += 1;
     }
     Notes {
@@ -222,7 +225,11 @@ pub fn note_new<'a>(
 {
     let name = name_of(ids, n, id) as u8;
     let at = size(prev);
-    step(
+    let every = Places {
+        low: EVERY,
+        high: EVERY,
+    };
+    let r = step(
         lists,
         masks,
         kinds,
@@ -244,5 +251,14 @@ pub fn note_new<'a>(
         signer,
         name,
         names[at],
-    )
+        every,
+    );
+    let b = r.beneath;
+    let crowded = is_crowded(kinds, names, tops, n, b.low, b.high, name, r.ballot);
+    let grounded = is_grounded(kinds, n, b.low, b.high);
+    Note {
+        grounded,
+        formed1b: (r.form != 1) | !crowded,
+        formed2a: (r.form != 2) | (r.learners != 0),
+    }
 }

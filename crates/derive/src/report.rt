@@ -16,7 +16,7 @@ ghost use Rattle.graph.specs.Held.{heldGraph, Sized};
 ghost use Rattle.protocol.specs.Table.{Table};
 ghost use Rattle.protocol.specs.Places.{reportAt};
 ghost use Rattle.scan.specs.Arrays.{Whole};
-ghost use Rattle.derive.specs.Deciding.{isKnownIn, isVoter, votersFor, isDeciding, lowered, leastOf, shown};
+ghost use Rattle.derive.specs.Deciding.{isKnownIn, isVoter, votersFor, isDeciding, isLower, lowered, leastOf, shown};
 ghost use Rattle.derive.specs.Notes.{Known};
 
 // Whether place j holds a known 2a of ballot x with learner a.
@@ -80,8 +80,25 @@ fn is_decided<'a>(
     is_quorum(lists, masks, acceptors, a, set)
 }
 
-// Whether place j holds a known 2a whose ballot decides, and where `other`, one of another value than v.
-fn is_deciding<'a>(
+// Whether place j holds a known 2a of a lower ballot than the least so far, and where `other`, of another value than v.
+fn is_lower<'a>(
+    known: &'a [u8],
+    forms: &'a [u8],
+    tops: &'a [u64],
+    p: Least,
+    other: bool,
+    v: u64,
+    j: usize,
+) -> bool
+    requires { ⌜ (j < 128) × (Whole (now known) × (Whole (now forms) × Whole (now tops))) ⌝ }
+    ensures { λ r. ⌜ r ≡ isLower (now (known .entry)) (now (forms .entry)) (now (tops .entry)) p other v j ⌝ }
+{
+    let x = tops[j];
+    (known[j] != 0) & (forms[j] == 2) & (!other | (value(x) != v)) & (!p.found | (x < p.ballot))
+}
+
+// The least so far, or the ballot of place j where that one decides and is lower. The quorum is asked last: it takes a walk over all places.
+fn lower<'a>(
     lists: &'a [u8],
     masks: &'a [Mask],
     known: &'a [u8],
@@ -94,36 +111,29 @@ fn is_deciding<'a>(
     a: usize,
     other: bool,
     v: u64,
+    p: Least,
     j: usize,
-) -> bool
+) -> Least
     requires { ⌜ (j < 128) × ((acceptors ≤ 32) × (Sized (now lists) (now masks) × ((a < 8) × ((n ≤ 128) × (Whole (now known) × (Whole (now forms) × (Whole (now learners) × (Whole (now tops) × Whole (now signers))))))))) ⌝ }
-    ensures { λ r. ⌜ ((m : ℕ) → r ≡ isDeciding (heldGraph acceptors m (now (lists .entry)) (now (masks .entry))) (now (known .entry)) (now (forms .entry)) (now (learners .entry)) (now (tops .entry)) (now (signers .entry)) n a other v j) ⌝ }
+    ensures { λ r. ⌜ ((m : ℕ) → r ≡ lowered p (isDeciding (heldGraph acceptors m (now (lists .entry)) (now (masks .entry))) (now (known .entry)) (now (forms .entry)) (now (learners .entry)) (now (tops .entry)) (now (signers .entry)) n a other v j) (getD (now (tops .entry)) j 0)) ⌝ }
 {
-    if (known[j] != 0) & (forms[j] == 2) {
-        let x = tops[j];
-        return is_decided(
-            lists,
-            masks,
-            known,
-            forms,
-            learners,
-            tops,
-            signers,
-            acceptors,
-            n,
-            a,
-            x,
-        )
-            & (!other | (value(x) != v));
+    if !is_lower(known, forms, tops, p, other, v, j) {
+        return p;
     }
-    false
-}
-
-// The lower of a ballot and the least so far, where `on`.
-fn lower(p: Least, on: bool, x: u64) -> Least
-    ensures { λ r. ⌜ r ≡ lowered p on x ⌝ }
-{
-    if on & (!p.found | (x < p.ballot)) {
+    let x = tops[j];
+    if is_decided(
+        lists,
+        masks,
+        known,
+        forms,
+        learners,
+        tops,
+        signers,
+        acceptors,
+        n,
+        a,
+        x,
+    ) {
         return Least {
             found: true,
             ballot: x,
@@ -132,7 +142,7 @@ fn lower(p: Least, on: bool, x: u64) -> Least
     p
 }
 
-// The least ballot of such places.
+// The least ballot of a known 2a that decides, and where `other`, of those of another value than v.
 fn least_deciding<'a>(
     lists: &'a [u8],
     masks: &'a [Mask],
@@ -156,7 +166,7 @@ fn least_deciding<'a>(
     };
     let mut j: usize = 0;
     while j < n {
-        let on = is_deciding(
+        least = lower(
             lists,
             masks,
             known,
@@ -169,9 +179,9 @@ fn least_deciding<'a>(
             a,
             other,
             v,
+            least,
             j,
         );
-        least = lower(least, on, tops[j]);
         j += 1;
     }
     least

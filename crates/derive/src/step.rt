@@ -1,9 +1,7 @@
 // One message worked out from the notes of the places before it, whether it is held, just delivered, or a reply that is being formed.
-use crate::Note;
+use crate::Worked;
 use graph::Mask;
 use scan::Places;
-use scan::beneath::is_crowded;
-use scan::beneath::is_grounded;
 use scan::beneath::under;
 use scan::forks::caught_in;
 use scan::forks::forking;
@@ -14,15 +12,19 @@ use scan::learners::value;
 use scan::sets::meet;
 use scan::sets::with_acceptor;
 ghost use mathlib.Core.Path.{_≡_};
+ghost use mathlib.Core.Bool.{_&&_};
 ghost use mathlib.Core.Option.{Option};
 ghost use mathlib.Core.List.{[], _∷_, _++_};
-ghost use Prim.Native.Nat.{_≤_};
-ghost use lib.ListN.{length};
-ghost use Rattle.base.specs.Tests.{pick};
+ghost use Prim.Native.Nat.{ℕ, _≤_, _<_};
+ghost use lib.Dec.{eqb};
+ghost use lib.ListN.{length, getD};
+ghost use Rattle.base.specs.Tests.{pick, any, below};
+ghost use Rattle.base.specs.Sets.{has};
 ghost use Rattle.graph.specs.Held.{heldGraph};
 ghost use Rattle.protocol.specs.Ids.{Id};
 ghost use Rattle.protocol.specs.Table.{Table, says};
-ghost use Rattle.derive.specs.Notes.{Known, Candidate, Told, Ready};
+ghost use Rattle.scan.specs.Arrays.{Whole, isCaught};
+ghost use Rattle.derive.specs.Notes.{Known, Candidate, Told, Marked, Ready};
 
 // So many, where `on`.
 fn count_if(on: bool, l: usize) -> usize
@@ -38,6 +40,28 @@ fn form_of(offered: bool) -> u8
     if offered { 1 } else { 2 }
 }
 
+// The acceptors that are caught by two places of the set. `forked` has each place that forks with one before it. Forks are rare: where none of
+// those is in the set, the walk over all places is left out.
+fn caught_within<'a>(
+    signers: &'a [u8],
+    fork_low: &'a [u64],
+    fork_high: &'a [u64],
+    n: usize,
+    low: u64,
+    high: u64,
+    forked: Places,
+) -> u32
+    requires { ⌜ (n ≤ 128) × (Whole (now signers) × (Whole (now «fork_low») × (Whole (now «fork_high») × Marked n (now «fork_low») (now «fork_high») (forked .low) (forked .high)))) ⌝ }
+    ensures { λ r. ⌜ ((p : ℕ) → p < 32 → has r p
+        ≡ any (λ j. isCaught (now («fork_low» .entry)) (now («fork_high» .entry)) low high j && eqb (getD (now (signers .entry)) j 0) p) (below n)) ⌝ }
+{
+    if !meet(low, high, forked.low, forked.high) {
+        return 0;
+    }
+    caught_in(signers, fork_low, fork_high, n, low, high)
+}
+
+// Its own place is left out of those that it reaches: a new message has none.
 pub fn step<'a>(
     counts: &'a [u8],
     masks: &'a [Mask],
@@ -60,8 +84,9 @@ pub fn step<'a>(
     signer: u8,
     name: u8,
     link: u8,
-) -> Note
-    requires { ⌜ Ready acceptors l n (now counts) (now masks) (now kinds) (now signers) (now names) (now previous) (now low) (now high) (now «fork_low») (now «fork_high») (now tops) (now learners) (now fresh) (now forms) (now places) ⌝ }
+    forked: Places,
+) -> Worked
+    requires { ⌜ Ready acceptors l n (now counts) (now masks) (now kinds) (now signers) (now names) (now previous) (now low) (now high) (now «fork_low») (now «fork_high») (now tops) (now learners) (now fresh) (now forms) (now places) × Marked n (now «fork_low») (now «fork_high») (forked .low) (forked .high) ⌝ }
     ensures { λ r. ⌜ ((t : Table) (id : Id) (prev : Option Id) → length t ≡ n
         → Known (heldGraph acceptors l (now (counts .entry)) (now (masks .entry))) t (now (kinds .entry)) (now (signers .entry)) (now (low .entry)) (now (high .entry))
         (now («fork_low» .entry)) (now («fork_high» .entry)) (now (tops .entry)) (now (learners .entry)) (now (fresh .entry)) (now (forms .entry))
@@ -70,7 +95,7 @@ pub fn step<'a>(
 {
     let u = under(low, high, tops, kinds, places);
     let forks = forking(kinds, signers, names, previous, n, signer, name, link);
-    let others = caught_in(signers, fork_low, fork_high, n, u.low, u.high);
+    let others = caught_within(signers, fork_low, fork_high, n, u.low, u.high, forked);
     let caught = with_acceptor(others, signer, meet(u.low, u.high, forks.low, forks.high));
     let firsts = count_if(u.offered, l);
     let against = opposing(
@@ -101,22 +126,16 @@ pub fn step<'a>(
         u.high,
         u.ballot,
     );
-    let crowded = is_crowded(kinds, names, tops, n, u.low, u.high, name, u.ballot);
-    let grounded = is_grounded(kinds, n, u.low, u.high);
     let beneath = Places {
         low: u.low,
         high: u.high,
     };
-    Note {
+    Worked {
         beneath,
         forks,
         ballot: u.ballot,
-        caught,
         learners: learned,
         fresh: free,
         form: form_of(u.offered),
-        grounded,
-        formed1b: !u.offered | !crowded,
-        formed2a: u.offered | (learned != 0),
     }
 }

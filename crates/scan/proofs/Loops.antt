@@ -4,12 +4,13 @@ use mathlib.Core.Bool.{Bool, true, false, _&&_, _||_}
 use mathlib.Core.List.{List, [], _∷_, _++_}
 use Prim.Native.Nat.{ℕ, _+_, _≤_, _<_, max}
 use native.Mathlib.Numerals.{add-one}
+use native.Mathlib.Decide.{ℕ-discrete}
 use native.Mathlib.Omega.{arith}
-use lib.Dec.{T, eqb, ltb, eqb→eq, eqb-refl, ltb→lt, lt→ltb}
-use lib.ListN.{length, getD, take}
-use lib.Seq.{take-suc}
+use lib.Dec.{T, eqb, ltb, eqb→eq, eqb-refl, ltb→lt, lt→ltb, not-T}
+use lib.ListN.{length, getD, take, set}
+use lib.Seq.{take-suc, getD-set-same, getD-set-other}
 use Rattle.base.specs.Tests.{any, below}
-use Rattle.base.proofs.Tests.{same-test, and-l, and-r, and-in, any-in, any-out, below-in, below-out}
+use Rattle.base.proofs.Tests.{same-test, not-true, and-l, and-r, and-in, any-in, any-out, below-in, below-out}
 use Rattle.scan.specs.Arrays.{highest}
 
 -- ---- over the numbers below a bound
@@ -22,6 +23,9 @@ any-again f j r found e h = ap₂ _||_ e h ∙ sym (any-suc f j)
 
 pub any-done : (f : ℕ → Bool) (j n : ℕ) → j ≤ n → n ≤ j → any f (below j) ≡ any f (below n)
 any-done f j n l g = let e : j ≡ n = omega arith in ap (λ (k : ℕ). any f (below k)) e
+
+pub any-none : (f : ℕ → Bool) (n : ℕ) → ((j : ℕ) → j < n → T (f j) → ⊥) → any f (below n) ≡ false
+any-none f n h = not-true (any f (below n)) (not-T (any f (below n)) (λ t. let (j, m, k) = any-out f (below n) t in h j (below-out n m) k))
 
 -- a number put into a set where the test passes
 pub put-again : (test : ℕ → Bool) (key : ℕ → ℕ) (j p : ℕ) (on x y : Bool) → x ≡ ((on && eqb (key j) p) || y) → on ≡ test j
@@ -40,6 +44,14 @@ any-at f n q = same-test _ _ to from
 
     from : T (ltb q n && f q) → T (any (λ j. f j && eqb j q) (below n))
     from t = any-in (λ j. f j && eqb j q) {x = q} (below-in n (ltb→lt q n (and-l (ltb q n) (f q) t))) (and-in (f q) (eqb q q) (and-r (ltb q n) (f q) t) (eqb-refl q))
+
+-- ---- an array filled entry by entry
+pub each-more : (P : ℕ → ℕ → Type 0) (l : List ℕ) (i x : ℕ) → i < length l → ((j : ℕ) → j < i → P j (getD l j 0)) → P i x → (j : ℕ) → j < i + 1 → P j (getD (set l i x) j 0)
+each-more P l i x size old new j h = step (ℕ-discrete j i)
+  where
+    step : Dec (j ≡ i) → P j (getD (set l i x) j 0)
+    step (yes e) = subst (λ (k : ℕ). P k (getD (set l i x) k 0)) (sym e) (subst (P i) (sym (getD-set-same l i x 0 size)) new)
+    step (no e) = subst (P j) (sym (getD-set-other l i j x 0 e)) (old j (omega arith))
 
 -- ---- over a list, front to back
 any-snoc : (f : ℕ → Bool) (l : List ℕ) (x : ℕ) → any f (l ++ (x ∷ [])) ≡ (f x || any f l)

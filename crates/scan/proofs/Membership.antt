@@ -22,6 +22,14 @@ or-swap true false = refl
 or-swap false true = refl
 or-swap false false = refl
 
+pub and-off : (a b : Bool) → b ≡ false → (a && b) ≡ false
+and-off true b e = e
+and-off false b e = refl
+
+pub and-on : (a b : Bool) → b ≡ true → (a && b) ≡ a
+and-on true b e = e
+and-on false b e = refl
+
 pub eqb-swap : (m n : ℕ) → eqb m n ≡ eqb n m
 eqb-swap m n = same-test _ _ (λ t. eq→eqb (sym (eqb→eq m n t))) (λ t. eq→eqb (sym (eqb→eq n m t)))
 

@@ -1,13 +1,13 @@
 -- The names of the places, one after the other.
-use mathlib.Core.Path.{_≡_, sym, ap, subst, _∙_}
+use mathlib.Core.Path.{_≡_, ap, _∙_}
 use mathlib.Core.Bool.{Bool, true, false}
 use mathlib.Core.List.{List}
 use Prim.Native.Nat.{ℕ, _+_, _-_, _*_, _<_}
-use native.Mathlib.Decide.{ℕ-discrete}
 use native.Mathlib.Omega.{arith}
-use lib.ListN.{length, getD, take, drop, set}
-use lib.Seq.{getD-set-same, getD-set-other}
+use lib.ListN.{length, take, drop, set}
+use lib.Seq.{getD-set-other}
 use Rattle.scan.specs.Arrays.{idIn, Lowest, Named}
+use Rattle.scan.proofs.Loops.{each-more}
 
 -- the part of the ids that the code lends
 pub lent : (ids : List ℕ) (i : ℕ) → take (32 * i + 32 - 32 * i) (drop (32 * i) ids) ≡ idIn ids i
@@ -20,11 +20,5 @@ pub named-more : (ids : List ℕ) (i : ℕ) (names : List ℕ) (k : ℕ) → i <
 named-more ids i names k l size old new =
     record {
       none = getD-set-other names i 255 k 0 (λ e. omega arith) ∙ old .none;
-      each = λ j h. step j h (ℕ-discrete j i);
+      each = each-more (λ j x. Lowest ids j (idIn ids j) x) names i k (omega arith) (old .each) new;
     }
-  where
-    step : (j : ℕ) → j < i + 1 → Dec (j ≡ i) → Lowest ids j (idIn ids j) (getD (set names i k) j 0)
-    step j h (yes e) =
-        subst (λ (x : ℕ). Lowest ids x (idIn ids x) (getD (set names i k) x 0)) (sym e)
-        (subst (λ (x : ℕ). Lowest ids i (idIn ids i) x) (sym (getD-set-same names i k 0 (omega arith))) new)
-    step j h (no e) = subst (λ (x : ℕ). Lowest ids j (idIn ids j) x) (sym (getD-set-other names i j k 0 e)) (old .each j (omega arith))

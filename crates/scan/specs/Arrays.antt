@@ -69,7 +69,12 @@ abbrev pub isOpposed : List ℕ → List ℕ → List ℕ → List ℕ → ℕ �
 isOpposed forms learners signers tops low high b signer v best other j =
     isVote forms learners low high b j && eqb (getD signers j 0) signer && not (eqb (valueOf (getD tops j 0)) v) && not (isBuried best other (getD tops j 0))
 
--- there is such a place among the first n, where best and other are the peaks of the votes for b
+-- the same, buried or not: only the learners of such places can be barred
+abbrev pub isRival : List ℕ → List ℕ → List ℕ → List ℕ → ℕ → ℕ → ℕ → ℕ → ℕ → ℕ → Bool
+isRival forms learners signers tops low high signer v b j =
+    isVote forms learners low high b j && eqb (getD signers j 0) signer && not (eqb (valueOf (getD tops j 0)) v)
+
+-- there is an opposed place among the first n, where best and other are the peaks of the votes for b
 abbrev pub isBarred : List ℕ → List ℕ → List ℕ → List ℕ → ℕ → ℕ → ℕ → ℕ → ℕ → ℕ → Bool
 isBarred forms learners signers tops n low high signer v b =
     any (isOpposed forms learners signers tops low high b signer v (peaksOf (voteBallot forms learners tops low high b) n .best)

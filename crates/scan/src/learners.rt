@@ -8,16 +8,16 @@ use graph::Mask;
 use graph::lists::is_quorum;
 use graph::lists::safe_without;
 ghost use mathlib.Core.Path.{_≡_};
-ghost use mathlib.Core.Bool.{not, _&&_};
+ghost use mathlib.Core.Bool.{not, _&&_, _||_};
 ghost use Prim.Native.Nat.{ℕ, _≤_, _<_};
 ghost use lib.Dec.{eqb};
-ghost use lib.ListN.{getD};
+ghost use lib.ListN.{length, getD};
 ghost use Rattle.base.specs.Tests.{any, below};
 ghost use Rattle.base.specs.Sets.{has};
 ghost use Rattle.base.specs.Ballots.{valueOf};
 ghost use Rattle.graph.specs.LearnerGraph.{isQuorum, safeWithout};
 ghost use Rattle.graph.specs.Held.{heldGraph, Sized};
-ghost use Rattle.scan.specs.Arrays.{Whole, isVote, voteBallot, raised, peaksOf, isBuried, isOpposed, isBarred, isBacker, backedBy};
+ghost use Rattle.scan.specs.Arrays.{Whole, isVote, voteBallot, raised, peaksOf, isBuried, isOpposed, isRival, isBarred, isBacker, backedBy};
 
 // The value of a ballot: its lower 32 bits.
 pub fn value(x: u64) -> u64
@@ -171,7 +171,94 @@ fn is_barred<'a>(
     found
 }
 
-// The learners for which there is such a place.
+// The learners of the 2a at place j, if it is in the set, of this signer and of another value than v. Most places fail the first test, which reads two bytes.
+fn rivals_at<'a>(
+    forms: &'a [u8],
+    learners: &'a [u8],
+    signers: &'a [u8],
+    tops: &'a [u64],
+    low: u64,
+    high: u64,
+    signer: u8,
+    v: u64,
+    j: usize,
+) -> u8
+    requires { ⌜ (j < 128) × (Whole (now forms) × (Whole (now learners) × (Whole (now signers) × Whole (now tops)))) ⌝ }
+    ensures { λ r. ⌜ ((b : ℕ) → has r b ≡ isRival (now (forms .entry)) (now (learners .entry)) (now (signers .entry)) (now (tops .entry)) low high signer v b j) ⌝ }
+{
+    if (forms[j] != 2) | (signers[j] != signer) {
+        return 0;
+    }
+    if has_place(low, high, j) & (value(tops[j]) != v) {
+        learners[j]
+    } else {
+        0
+    }
+}
+
+// The learners of such places among the first n: no other learner can be barred.
+fn rivals<'a>(
+    forms: &'a [u8],
+    learners: &'a [u8],
+    signers: &'a [u8],
+    tops: &'a [u64],
+    n: usize,
+    low: u64,
+    high: u64,
+    signer: u8,
+    v: u64,
+) -> u8
+    requires { ⌜ (n ≤ 128) × (Whole (now forms) × (Whole (now learners) × (Whole (now signers) × Whole (now tops)))) ⌝ }
+    ensures { λ r. ⌜ ((b : ℕ) → has r b ≡ any (isRival (now (forms .entry)) (now (learners .entry)) (now (signers .entry)) (now (tops .entry)) low high signer v b) (below n)) ⌝ }
+{
+    let mut mask: u8 = 0;
+    let mut j: usize = 0;
+    while j < n {
+        mask = rivals_at(forms, learners, signers, tops, low, high, signer, v, j) | mask;
+        j += 1;
+    }
+    mask
+}
+
+// Whether learner b is barred. The places are gone through only where b is among those learners.
+fn bars<'a>(
+    forms: &'a [u8],
+    learners: &'a [u8],
+    signers: &'a [u8],
+    tops: &'a [u64],
+    n: usize,
+    low: u64,
+    high: u64,
+    signer: u8,
+    v: u64,
+    among: u8,
+    b: usize,
+) -> bool
+    requires { ⌜ (b < 8) × ((n ≤ 128) × (Whole (now forms) × (Whole (now learners) × (Whole (now signers) × (Whole (now tops)
+        × ((q : ℕ) → has among q ≡ any (isRival (now forms) (now learners) (now signers) (now tops) low high signer v q) (below n))))))) ⌝ }
+    ensures { λ r. ⌜ r ≡ isBarred (now (forms .entry)) (now (learners .entry)) (now (signers .entry)) (now (tops .entry)) n low high signer v b ⌝ }
+{
+    if !has_learner(among, b) {
+        return false;
+    }
+    let p = peaks(forms, learners, tops, n, low, high, b);
+    is_barred(
+        forms,
+        learners,
+        signers,
+        tops,
+        n,
+        low,
+        high,
+        b,
+        signer,
+        v,
+        p.best,
+        p.other,
+    )
+}
+
+// The learners that are barred: for each of them there is an opposed place.
 pub fn opposing<'a>(
     forms: &'a [u8],
     learners: &'a [u8],
@@ -188,11 +275,11 @@ pub fn opposing<'a>(
     ensures { λ r. ⌜ ((q : ℕ) → has r q
         ≡ any (λ b. isBarred (now (forms .entry)) (now (learners .entry)) (now (signers .entry)) (now (tops .entry)) n low high signer v b && eqb b q) (below l)) ⌝ }
 {
+    let among = rivals(forms, learners, signers, tops, n, low, high, signer, v);
     let mut mask: u8 = 0;
     let mut b: usize = 0;
     while b < l {
-        let p = peaks(forms, learners, tops, n, low, high, b);
-        let on = is_barred(
+        let on = bars(
             forms,
             learners,
             signers,
@@ -200,11 +287,10 @@ pub fn opposing<'a>(
             n,
             low,
             high,
-            b,
             signer,
             v,
-            p.best,
-            p.other,
+            among,
+            b,
         );
         mask = with_learner(mask, b, on);
         b += 1;
@@ -212,7 +298,26 @@ pub fn opposing<'a>(
     mask
 }
 
-// Whether a learner connected with a is among them.
+// Whether b is among them and connected with a.
+fn is_against<'a>(
+    counts: &'a [u8],
+    masks: &'a [Mask],
+    acceptors: u8,
+    a: usize,
+    b: usize,
+    caught: Mask,
+    against: u8,
+) -> bool
+    requires { ⌜ (a < 8) × ((b < 8) × Sized (now counts) (now masks)) ⌝ }
+    ensures { λ r. ⌜ ((m : ℕ) → r ≡ (safeWithout (heldGraph acceptors m (now (counts .entry)) (now (masks .entry))) a b (has caught) && has against b)) ⌝ }
+{
+    if !has_learner(against, b) {
+        return false;
+    }
+    safe_without(counts, masks, acceptors, a, b, caught)
+}
+
+// Whether there is such a learner.
 fn is_stale<'a>(
     counts: &'a [u8],
     masks: &'a [Mask],
@@ -225,17 +330,19 @@ fn is_stale<'a>(
     requires { ⌜ (a < 8) × ((l ≤ 8) × Sized (now counts) (now masks)) ⌝ }
     ensures { λ r. ⌜ ((m : ℕ) → r ≡ any (λ b. safeWithout (heldGraph acceptors m (now (counts .entry)) (now (masks .entry))) a b (has caught) && has against b) (below l)) ⌝ }
 {
+    if against == 0 {
+        return false;
+    }
     let mut found = false;
     let mut b: usize = 0;
     while b < l {
-        found = (safe_without(counts, masks, acceptors, a, b, caught) & has_learner(against, b))
-            | found;
+        found = is_against(counts, masks, acceptors, a, b, caught, against) | found;
         b += 1;
     }
     found
 }
 
-// The first k learners for which none is: a 1b is fresh for them.
+// The first k learners for which there is none: a 1b is fresh for them.
 pub fn fresh_for<'a>(
     counts: &'a [u8],
     masks: &'a [Mask],
@@ -259,73 +366,69 @@ pub fn fresh_for<'a>(
     mask
 }
 
-// Whether place j is in the set and holds a 1b of this ballot, fresh for a.
-fn is_backer<'a>(
+// The learners for which the 1b at place j is fresh, if it is in the set and of this ballot. Most places fail the first test.
+fn fresh_at<'a>(
     forms: &'a [u8],
     fresh: &'a [u8],
     tops: &'a [u64],
     low: u64,
     high: u64,
-    a: usize,
     ballot: u64,
     j: usize,
-) -> bool
-    requires { ⌜ (a < 8) × ((j < 128) × (Whole (now forms) × (Whole (now fresh) × Whole (now tops)))) ⌝ }
-    ensures { λ r. ⌜ r ≡ isBacker (now (forms .entry)) (now (fresh .entry)) (now (tops .entry)) low high a ballot j ⌝ }
+) -> u8
+    requires { ⌜ (j < 128) × (Whole (now forms) × (Whole (now fresh) × Whole (now tops))) ⌝ }
+    ensures { λ r. ⌜ ((a : ℕ) → has r a ≡ isBacker (now (forms .entry)) (now (fresh .entry)) (now (tops .entry)) low high a ballot j) ⌝ }
 {
-    has_place(low, high, j) & (forms[j] == 1) & has_learner(fresh[j], a) & (tops[j] == ballot)
+    if (forms[j] != 1) | (tops[j] != ballot) {
+        return 0;
+    }
+    if has_place(low, high, j) { fresh[j] } else { 0 }
 }
 
-// The signers of such places among the first n.
+// Acceptor p put into the sets of those of the first k learners that are in `to`.
+fn put_backer(sets: &mut [Mask], k: usize, to: u8, p: u8)
+    requires { ⌜ (k ≤ 8) × (length (now sets) ≡ 8) ⌝ }
+    ensures { λ _. ⌜ ((a q : ℕ) → a < k → q < 32 → has (getD (now (sets .exit)) a 0) q ≡ ((has to a && eqb p q) || has (getD (now (sets .entry)) a 0) q)) ⌝ }
+{
+    if to == 0 {
+        return;
+    }
+    let mut a: usize = 0;
+    while a < k {
+        let on = has_learner(to, a);
+        let set = with_acceptor(sets[a], p, on);
+        sets[a] = set;
+        a += 1;
+    }
+}
+
+// For each of the first k learners, the signers of the 1bs of this ballot that are fresh for it, in the set and among the first n places.
 fn backers<'a>(
     forms: &'a [u8],
     fresh: &'a [u8],
     tops: &'a [u64],
     signers: &'a [u8],
+    k: usize,
     n: usize,
     low: u64,
     high: u64,
-    a: usize,
     ballot: u64,
-) -> Mask
-    requires { ⌜ (a < 8) × ((n ≤ 128) × (Whole (now forms) × (Whole (now fresh) × (Whole (now tops) × Whole (now signers))))) ⌝ }
-    ensures { λ r. ⌜ ((p : ℕ) → p < 32 → has r p
-        ≡ any (λ j. isBacker (now (forms .entry)) (now (fresh .entry)) (now (tops .entry)) low high a ballot j && eqb (getD (now (signers .entry)) j 0) p) (below n)) ⌝ }
+) -> [Mask; 8]
+    requires { ⌜ (k ≤ 8) × ((n ≤ 128) × (Whole (now forms) × (Whole (now fresh) × (Whole (now tops) × Whole (now signers))))) ⌝ }
+    ensures { λ r. ⌜ (length r ≡ 8) × ((a p : ℕ) → a < k → p < 32 → has (getD r a 0) p
+        ≡ backedBy (now (forms .entry)) (now (fresh .entry)) (now (tops .entry)) (now (signers .entry)) n low high ballot a p) ⌝ }
 {
-    let mut mask: Mask = 0;
+    let mut sets = [0u32; 8];
     let mut j: usize = 0;
     while j < n {
-        let on = is_backer(forms, fresh, tops, low, high, a, ballot, j);
-        mask = with_acceptor(mask, signers[j], on);
+        let to = fresh_at(forms, fresh, tops, low, high, ballot, j);
+        put_backer(&mut sets, k, to, signers[j]);
         j += 1;
     }
-    mask
+    sets
 }
 
-// Whether they are a quorum of a.
-fn is_backed<'a>(
-    counts: &'a [u8],
-    masks: &'a [Mask],
-    forms: &'a [u8],
-    fresh: &'a [u8],
-    tops: &'a [u64],
-    signers: &'a [u8],
-    acceptors: u8,
-    n: usize,
-    low: u64,
-    high: u64,
-    a: usize,
-    ballot: u64,
-) -> bool
-    requires { ⌜ (acceptors ≤ 32) × (Sized (now counts) (now masks) × ((a < 8) × ((n ≤ 128) × (Whole (now forms) × (Whole (now fresh) × (Whole (now tops) × Whole (now signers))))))) ⌝ }
-    ensures { λ r. ⌜ ((m : ℕ) → r ≡ isQuorum (heldGraph acceptors m (now (counts .entry)) (now (masks .entry))) a
-        (backedBy (now (forms .entry)) (now (fresh .entry)) (now (tops .entry)) (now (signers .entry)) n low high ballot a)) ⌝ }
-{
-    let set = backers(forms, fresh, tops, signers, n, low, high, a, ballot);
-    is_quorum(counts, masks, acceptors, a, set)
-}
-
-// The first k learners for which they are: those of a 2a.
+// The first k learners for which they are a quorum: those of a 2a.
 pub fn learners_for<'a>(
     counts: &'a [u8],
     masks: &'a [Mask],
@@ -344,23 +447,11 @@ pub fn learners_for<'a>(
     ensures { λ r. ⌜ ((m q : ℕ) → has r q ≡ any (λ a. isQuorum (heldGraph acceptors m (now (counts .entry)) (now (masks .entry))) a
         (backedBy (now (forms .entry)) (now (fresh .entry)) (now (tops .entry)) (now (signers .entry)) n low high ballot a) && eqb a q) (below k)) ⌝ }
 {
+    let sets = backers(forms, fresh, tops, signers, k, n, low, high, ballot);
     let mut mask: u8 = 0;
     let mut a: usize = 0;
     while a < k {
-        let on = is_backed(
-            counts,
-            masks,
-            forms,
-            fresh,
-            tops,
-            signers,
-            acceptors,
-            n,
-            low,
-            high,
-            a,
-            ballot,
-        );
+        let on = is_quorum(counts, masks, acceptors, a, sets[a]);
         mask = with_learner(mask, a, on);
         a += 1;
     }

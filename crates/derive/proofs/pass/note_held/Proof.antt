@@ -20,11 +20,11 @@ shared-slice-read-if1 c = search needs
 with-place-requires : tie.Need-with-place-requires
 with-place-requires c κs = search needs
 
-mul-t34 : tie.Need-mul-t34
-mul-t34 c = search needs
+mul-t35 : tie.Need-mul-t35
+mul-t35 c = search needs
 
-shared-slice-read-t36 : tie.Need-shared-slice-read-t36
-shared-slice-read-t36 c = search needs
+shared-slice-read-t37 : tie.Need-shared-slice-read-t37
+shared-slice-read-t37 c = search needs
 
 returns : tie.Need-returns
 returns c = let a = c .before .before .before .before .before .before .before .before .before .before .before .before .before .before .before .before .before .before .before .before .before .args in let pre = c .before .before .before .before .before .before .before .before .before .before .before .before .before .before .before .before .before .before .before .before .before .pre in let fit = pre .1 .0 in λ ids named kn. offer-noted (heldGraph (a .acceptors) (a .l) (a .lists .now) (a .masks .now)) ids (a .kinds .now) (a .signers .now) (a .ballots .now) (a .previous .now) (a .counts .now) (a .references .now) (a .n) fit (a .p) (pre .0) (eq-eqb (getD (a .kinds .now) (a .p) 0) 1 (c .before .before .if1 .taken))
@@ -67,25 +67,28 @@ shared-slice-read-step-3 : tie.Need-shared-slice-read-step-3
 shared-slice-read-step-3 c = search needs
 
 step-requires : tie.Need-step-requires
-step-requires c κs = let a = c .before .before .before .before .before .before .before .before .before .before .before .before .before .before .before .before .before .before .before .before .before .before .before .before .before .before .before .args in let pre = c .before .before .before .before .before .before .before .before .before .before .before .before .before .before .before .before .before .before .before .before .before .before .before .before .before .before .before .pre in let fit = pre .1 .0 in let r = pre .1 .1 .1 .1 .1 in let s = c .before .before .before .before .before .before .size in let few = fit .held in let low = pre .0 in record {
-  acceptorsFit = r .acceptorsFit;
-  learnersFit = r .learnersFit;
-  sized = r .sized;
-  kindsFit = r .kindsFit;
-  signersFit = r .signersFit;
-  namesFit = r .namesFit;
-  previousFit = r .previousFit;
-  lowFit = r .lowFit;
-  highFit = r .highFit;
-  forkLowFit = r .forkLowFit;
-  forkHighFit = r .forkHighFit;
-  topsFit = r .topsFit;
-  learnedFit = r .learnedFit;
-  freshFit = r .freshFit;
-  formsFit = r .formsFit;
-  heldFit = omega arith;
-  placesFit = entry-below (take (128 * a .p + s .result - 128 * a .p) (drop (128 * a .p) (a .references .now))) 128 (omega arith) (λ j m. let g = fit .back (a .p) low (ne-eqb (getD (a .kinds .now) (a .p) 0) 1 (c .before .before .before .before .before .before .before .before .if1 .left)) j (subst (λ (x : List ℕ). j ∈ x) (lent-references (a .counts .now) (a .references .now) (a .p) (s .result) (s .ensures .0)) m) in omega arith);
-}
+step-requires c κs = let a = c .before .before .before .before .before .before .before .before .before .before .before .before .before .before .before .before .before .before .before .before .before .before .before .before .before .before .before .args in let pre = c .before .before .before .before .before .before .before .before .before .before .before .before .before .before .before .before .before .before .before .before .before .before .before .before .before .before .before .pre in let fit = pre .1 .0 in let r = pre .1 .1 .1 .1 .1 .0 in let s = c .before .before .before .before .before .before .size in let few = fit .held in let low = pre .0 in (
+  record {
+    acceptorsFit = r .acceptorsFit;
+    learnersFit = r .learnersFit;
+    sized = r .sized;
+    kindsFit = r .kindsFit;
+    signersFit = r .signersFit;
+    namesFit = r .namesFit;
+    previousFit = r .previousFit;
+    lowFit = r .lowFit;
+    highFit = r .highFit;
+    forkLowFit = r .forkLowFit;
+    forkHighFit = r .forkHighFit;
+    topsFit = r .topsFit;
+    learnedFit = r .learnedFit;
+    freshFit = r .freshFit;
+    formsFit = r .formsFit;
+    heldFit = omega arith;
+    placesFit = entry-below (take (128 * a .p + s .result - 128 * a .p) (drop (128 * a .p) (a .references .now))) 128 (omega arith) (λ j m. let g = fit .back (a .p) low (ne-eqb (getD (a .kinds .now) (a .p) 0) 1 (c .before .before .before .before .before .before .before .before .if1 .left)) j (subst (λ (x : List ℕ). j ∈ x) (lent-references (a .counts .now) (a .references .now) (a .p) (s .result) (s .ensures .0)) m) in omega arith);
+  },
+  pre .1 .1 .1 .1 .1 .1,
+)
 
 with-place-requires-2 : tie.Need-with-place-requires-2
 with-place-requires-2 c κs = let a = c .before .before .before .before .before .before .before .before .before .before .before .before .before .before .before .before .before .before .before .before .before .before .before .before .before .before .before .before .before .args in let pre = c .before .before .before .before .before .before .before .before .before .before .before .before .before .before .before .before .before .before .before .before .before .before .before .before .before .before .before .before .before .pre in let fit = pre .1 .0 in let few = fit .held in let low = pre .0 in omega arith
@@ -103,8 +106,8 @@ note-held-spec =
     (tie.spec
     shared-slice-read-if1
     with-place-requires
-    mul-t34
-    shared-slice-read-t36
+    mul-t35
+    shared-slice-read-t37
     returns
     mul-from
     shared-slice-read-size

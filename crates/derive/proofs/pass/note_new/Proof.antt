@@ -1,12 +1,17 @@
 use mathlib.Core.Path.{_≡_, sym, subst}
+use mathlib.Core.Bool.{not, _||_}
 use Prim.Native.Nat.{ℕ, _<_, _-_}
+use lib.Dec.{eqb}
+use lib.ListN.{getD}
 use mathlib.Core.Logic.{_⊎_}
 use Rattle.graph.specs.Held.{heldGraph}
-use Rattle.protocol.specs.Table.{says, places, nodeBy, tree}
+use Rattle.protocol.specs.Table.{says, nodeBy, tree}
 use Rattle.protocol.proofs.Growth.{length-tabulate}
 use Rattle.derive.specs.Records.{namedIn, recordIn, tableIn}
+use Rattle.derive.specs.declared.Note.{Note}
 use Rattle.derive.specs.Notes.{Judged}
-use Rattle.derive.proofs.Growing.{judged-told}
+use Rattle.derive.proofs.Working.{judged}
+use Rattle.derive.proofs.Marking.{every-marked}
 use Rattle.derive.proofs.Naming.{candidate}
 use borrow.Author.Needs.{needs}
 use native.Mathlib.Omega.{arith}
@@ -26,18 +31,27 @@ shared-slice-read-step : tie.Need-shared-slice-read-step
 shared-slice-read-step c = search needs
 
 step-requires : tie.Need-step-requires
-step-requires c κs = search needs
+step-requires c κs = let a = c .before .before .before .before .before .before .before .before .before .before .before .before .before .before .before .before .before .before .before .before .args in let p = c .before .before .before .before .before .before .before .before .before .before .before .before .before .before .before .before .before .before .before .before .pre .1 in (p, every-marked (a .n) (p .heldFit) (a .forklow .now) (a .forkhigh .now))
+
+is-crowded-requires : tie.Need-is-crowded-requires
+is-crowded-requires c κs = let p = c .before .before .before .before .before .before .before .before .before .before .before .before .before .before .before .before .before .before .before .before .before .before .pre .1 in (p .heldFit, (p .kindsFit, (p .namesFit, p .topsFit)))
+
+is-grounded-requires : tie.Need-is-grounded-requires
+is-grounded-requires c κs = let p = c .before .before .before .before .before .before .before .before .before .before .before .before .before .before .before .before .before .before .before .before .before .before .before .pre .1 in (p .heldFit, p .kindsFit)
 
 returns : tie.Need-returns
-unfolding places
-returns c = let a = c .before .before .before .before .before .before .before .before .before .before .before .before .before .before .before .before .before .before .before .before .before .args in let p = c .before .before .before .before .before .before .before .before .before .before .before .before .before .before .before .before .before .before .before .before .before .pre in let at = c .before .before .size .result in let ey = c .before .before .size .ensures .0 in
+returns c = let a = c .before .before .before .before .before .before .before .before .before .before .before .before .before .before .before .before .before .before .before .before .before .before .before .before .before .before .before .args in let p = c .before .before .before .before .before .before .before .before .before .before .before .before .before .before .before .before .before .before .before .before .before .before .before .before .before .before .before .pre .1 in let name = c .before .before .before .before .before .before .before .before .before .name-of in let at = c .before .before .before .before .before .before .before .before .size .result in let ey = c .before .before .before .before .before .before .before .before .size .ensures .0 in let r = c .before .before .before .before .before .before .step .result in
+    let crowded = c .before .before .before .before .is-crowded in let grounded = c .before .before .before .is-grounded in
+    let x : Note = record { grounded = grounded .result; formed1b = not (eqb (r .form) 1) || not (crowded .result); formed2a = not (eqb (r .form) 2) || not (eqb (r .learners) 0) } in
     λ ballots counts references fit named ly back kn.
     let z = length-tabulate (a .n) (recordIn (a .ids .now) (a .kinds .now) (a .signers .now) ballots (a .previous .now) counts references) in
-    subst (λ (k : ℕ). Judged (heldGraph (a .acceptors) (a .l) (a .lists .now) (a .masks .now)) (nodeBy (tree (tableIn (a .ids .now) (a .kinds .now) (a .signers .now) ballots (a .previous .now) counts references (a .n))) (says (a .id .now) (a .signer) (namedIn (a .ids .now) k) (a .places .now))) (c .step .result)) ey
-    (judged-told (heldGraph (a .acceptors) (a .l) (a .lists .now) (a .masks .now)) (tableIn (a .ids .now) (a .kinds .now) (a .signers .now) ballots (a .previous .now) counts references (a .n)) (says (a .id .now) (a .signer) (namedIn (a .ids .now) at) (a .places .now)) (kn .ordered) (λ j m. let g = back j m in omega arith) (a .n) z (c .step .result)
-    (c .step .ensures (tableIn (a .ids .now) (a .kinds .now) (a .signers .now) ballots (a .previous .now) counts references (a .n)) (a .id .now) (namedIn (a .ids .now) at) z kn
-    (candidate (a .ids .now) (a .kinds .now) (a .signers .now) ballots (a .previous .now) counts references (a .n) (a .n) fit (omega arith) (a .names .now) named (a .id .now) (c .before .before .before .name-of .result) at (a .places .now) (c .before .before .before .name-of .ensures)
-    (subst (λ (k : ℕ). (k ≡ 255) ⊎ (k < a .n)) (sym ey) ly) back)))
+    let ca = candidate (a .ids .now) (a .kinds .now) (a .signers .now) ballots (a .previous .now) counts references (a .n) (a .n) fit (omega arith) (a .names .now) named (a .id .now) (name .result) at (a .places .now) (name .ensures)
+    (subst (λ (k : ℕ). (k ≡ 255) ⊎ (k < a .n)) (sym ey) ly) back in
+    subst (λ (k : ℕ). Judged (heldGraph (a .acceptors) (a .l) (a .lists .now) (a .masks .now)) (nodeBy (tree (tableIn (a .ids .now) (a .kinds .now) (a .signers .now) ballots (a .previous .now) counts references (a .n))) (says (a .id .now) (a .signer) (namedIn (a .ids .now) k) (a .places .now))) x) ey
+    (judged (heldGraph (a .acceptors) (a .l) (a .lists .now) (a .masks .now)) (tableIn (a .ids .now) (a .kinds .now) (a .signers .now) ballots (a .previous .now) counts references (a .n)) (a .kinds .now) (a .signers .now) (a .names .now) (a .previous .now)
+    (a .low .now) (a .high .now) (a .forklow .now) (a .forkhigh .now) (a .tops .now) (a .learners .now) (a .fresh .now) (a .forms .now) (a .places .now)
+    kn (a .id .now) (a .signer) (namedIn (a .ids .now) at) (name .result) (getD (a .names .now) at 0) (a .n) z (p .heldFit) ca
+    r (c .before .before .before .before .before .before .step .ensures (tableIn (a .ids .now) (a .kinds .now) (a .signers .now) ballots (a .previous .now) counts references (a .n)) (a .id .now) (namedIn (a .ids .now) at) z kn ca) (crowded .result) (grounded .result) (crowded .ensures) (grounded .ensures))
 
 pub note-new-spec : {M : Type 1} → statement M
 note-new-spec =
@@ -48,4 +62,6 @@ note-new-spec =
     size-requires
     shared-slice-read-step
     step-requires
+    is-crowded-requires
+    is-grounded-requires
     returns)

@@ -5,26 +5,27 @@ use Rattle.graph.specs.Held.{heldGraph}
 use Rattle.protocol.specs.Table.{tabulate}
 use Rattle.scan.specs.Arrays.{Whole}
 use Rattle.derive.specs.Records.{tableIn}
-use Rattle.derive.specs.Notes.{Known}
+use Rattle.derive.specs.Notes.{Known, Marked}
 use Rattle.derive.proofs.Growing.{known-none}
 use Rattle.derive.proofs.Passing.{pass-more}
+use Rattle.derive.proofs.Marking.{marked-more}
 use borrow.Author.Needs.{needs}
 use native.Mathlib.Omega.{arith}
 use Rattle.derive.proofs.pass.work_out.Statement.{statement}
 use Rattle.derive.proofs.pass.work_out.Tie as tie
 
 abbrev Inv-loop : tie.InvT-loop
-Inv-loop lists masks ids kinds signers ballots previous counts references acceptors l n names low₀ high₀ forklow₀ forkhigh₀ tops₀ learners₀ fresh₀ forms₀ p₀ low high forklow forkhigh tops learners fresh forms p = (p ≤ n) × ((Whole low × (Whole high × (Whole forklow × (Whole forkhigh × (Whole tops × (Whole learners × (Whole fresh × Whole forms))))))) × Known (heldGraph acceptors l lists masks) (tableIn ids kinds signers ballots previous counts references p) kinds signers low high forklow forkhigh tops learners fresh forms)
+Inv-loop lists masks ids kinds signers ballots previous counts references acceptors l n names low₀ high₀ forklow₀ forkhigh₀ tops₀ learners₀ fresh₀ forms₀ forked₀ p₀ low high forklow forkhigh tops learners fresh forms forked p = (p ≤ n) × ((Whole low × (Whole high × (Whole forklow × (Whole forkhigh × (Whole tops × (Whole learners × (Whole fresh × Whole forms))))))) × (Known (heldGraph acceptors l lists masks) (tableIn ids kinds signers ballots previous counts references p) kinds signers low high forklow forkhigh tops learners fresh forms × Marked p forklow forkhigh (forked .low) (forked .high)))
 
 abbrev μ-loop : tie.MeasureT-loop
-μ-loop lists masks ids kinds signers ballots previous counts references acceptors l n names low₀ high₀ forklow₀ forkhigh₀ tops₀ learners₀ fresh₀ forms₀ p₀ low high forklow forkhigh tops learners fresh forms p = n - p
+μ-loop lists masks ids kinds signers ballots previous counts references acceptors l n names low₀ high₀ forklow₀ forkhigh₀ tops₀ learners₀ fresh₀ forms₀ forked₀ p₀ low high forklow forkhigh tops learners fresh forms forked p = n - p
 
 names-of-requires : tie.Need-names-of-requires Inv-loop μ-loop
 names-of-requires c κs = let a = c .before .before .before .before .before .before .before .before .before .args in let pre = c .before .before .before .before .before .before .before .before .before .pre in let fit = pre .1 .1 .1 .0 in let lens = pre .1 .1 .1 .1 in (fit .held, lens .idsFit)
 
 loop-holds : tie.Need-loop-holds Inv-loop μ-loop
 unfolding tabulate
-loop-holds c = let a = c .before .before .before .before .before .before .before .before .before .before .args in let pre = c .before .before .before .before .before .before .before .before .before .before .pre in let fit = pre .1 .1 .1 .0 in let lens = pre .1 .1 .1 .1 in (omega arith, ((refl, (refl, (refl, (refl, (refl, (refl, (refl, refl))))))), known-none (heldGraph (a .acceptors) (a .l) (a .lists .now) (a .masks .now)) (a .kinds .now) (a .signers .now) _ _ _ _ _ _ _ _))
+loop-holds c = let a = c .before .before .before .before .before .before .before .before .before .before .args in let pre = c .before .before .before .before .before .before .before .before .before .before .pre in let fit = pre .1 .1 .1 .0 in let lens = pre .1 .1 .1 .1 in (omega arith, ((refl, (refl, (refl, (refl, (refl, (refl, (refl, refl))))))), (known-none (heldGraph (a .acceptors) (a .l) (a .lists .now) (a .masks .now)) (a .kinds .now) (a .signers .now) _ _ _ _ _ _ _ _, λ j k lj lk h. absurd (omega arith))))
 
 slice-aggregate-note-held : tie.Need-slice-aggregate-note-held Inv-loop μ-loop
 slice-aggregate-note-held c = search needs
@@ -64,25 +65,28 @@ note-held-requires c κs = let a = c .before .before .before .before .before .be
         lens .countsFit,
         (
           lens .referencesFit,
-          record {
-            acceptorsFit = pre .0;
-            learnersFit = pre .1 .0;
-            heldFit = fit .held;
-            sized = pre .1 .1 .0;
-            kindsFit = lens .kindsFit;
-            signersFit = lens .signersFit;
-            namesFit = c .before .before .before .before .before .before .before .before .before .before .before .names-of .ensures .0;
-            previousFit = lens .previousFit;
-            lowFit = w .0;
-            highFit = w .1 .0;
-            forkLowFit = w .1 .1 .0;
-            forkHighFit = w .1 .1 .1 .0;
-            topsFit = w .1 .1 .1 .1 .0;
-            learnedFit = w .1 .1 .1 .1 .1 .0;
-            freshFit = w .1 .1 .1 .1 .1 .1 .0;
-            formsFit = w .1 .1 .1 .1 .1 .1 .1;
-            placesFit = λ i. omega arith;
-          },
+          (
+            record {
+              acceptorsFit = pre .0;
+              learnersFit = pre .1 .0;
+              heldFit = fit .held;
+              sized = pre .1 .1 .0;
+              kindsFit = lens .kindsFit;
+              signersFit = lens .signersFit;
+              namesFit = c .before .before .before .before .before .before .before .before .before .before .before .names-of .ensures .0;
+              previousFit = lens .previousFit;
+              lowFit = w .0;
+              highFit = w .1 .0;
+              forkLowFit = w .1 .1 .0;
+              forkHighFit = w .1 .1 .1 .0;
+              topsFit = w .1 .1 .1 .1 .0;
+              learnedFit = w .1 .1 .1 .1 .1 .0;
+              freshFit = w .1 .1 .1 .1 .1 .1 .0;
+              formsFit = w .1 .1 .1 .1 .1 .1 .1;
+              placesFit = λ i. omega arith;
+            },
+            c .before .before .before .before .before .before .before .before .before .before .loop .inv .1 .1 .1,
+          ),
         ),
       ),
     ),
@@ -128,25 +132,31 @@ array-write-fresh c = omega (arith, c .before .before .before .before .before .b
 array-write-forms : tie.Need-array-write-forms Inv-loop μ-loop
 array-write-forms c = omega (arith, c .before .before .before .before .before .before .before .before .before .before .before .before .loop-test .taken, c .before .before .before .before .before .before .before .before .before .before .before .before .before .before .before .before .before .before .before .before .before .before .before .before .pre .1 .1 .1 .0 .held)
 
+with-place-requires : tie.Need-with-place-requires Inv-loop μ-loop
+with-place-requires c κs = let few = c .before .before .before .before .before .before .before .before .before .before .before .before .before .before .before .before .before .before .before .before .before .before .before .before .before .before .pre .1 .1 .1 .0 .held in let go = c .before .before .before .before .before .before .before .before .before .before .before .before .before .before .loop-test .taken in omega arith
+
 add-p : tie.Need-add-p Inv-loop μ-loop
-add-p c = omega (arith, c .before .before .before .before .before .before .before .before .before .before .before .before .loop-test .taken, c .before .before .before .before .before .before .before .before .before .before .before .before .before .before .before .before .before .before .before .before .before .before .before .before .pre .1 .1 .1 .0 .held)
+add-p c = omega (arith, c .before .before .before .before .before .before .before .before .before .before .before .before .before .before .before .loop-test .taken, c .before .before .before .before .before .before .before .before .before .before .before .before .before .before .before .before .before .before .before .before .before .before .before .before .before .before .before .pre .1 .1 .1 .0 .held)
 
 loop-less : tie.Need-loop-less Inv-loop μ-loop
-loop-less c = omega (arith, c .before .before .before .before .before .before .before .before .before .before .before .before .loop-test .taken, c .before .before .before .before .before .before .before .before .before .before .before .before .before .before .before .before .before .before .before .before .before .before .before .before .pre .1 .1 .1 .0 .held)
+loop-less c = omega (arith, c .before .before .before .before .before .before .before .before .before .before .before .before .before .before .before .loop-test .taken, c .before .before .before .before .before .before .before .before .before .before .before .before .before .before .before .before .before .before .before .before .before .before .before .before .before .before .before .pre .1 .1 .1 .0 .held)
 
 loop-again : tie.Need-loop-again Inv-loop μ-loop
-loop-again c = let a = c .before .before .before .before .before .before .before .before .before .before .before .before .before .before .before .before .before .before .before .before .before .before .before .before .args in let pre = c .before .before .before .before .before .before .before .before .before .before .before .before .before .before .before .before .before .before .before .before .before .before .before .before .pre in let fit = pre .1 .1 .1 .0 in let lens = pre .1 .1 .1 .1 in let lp = c .before .before .before .before .before .before .before .before .before .before .before .before .before .loop in let w = lp .inv .1 .0 in let r = c .before .before .note-held .result in (
-  omega (arith, c .before .before .before .before .before .before .before .before .before .before .before .before .loop-test .taken),
+loop-again c = let a = c .before .before .before .before .before .before .before .before .before .before .before .before .before .before .before .before .before .before .before .before .before .before .before .before .before .before .before .args in let pre = c .before .before .before .before .before .before .before .before .before .before .before .before .before .before .before .before .before .before .before .before .before .before .before .before .before .before .before .pre in let fit = pre .1 .1 .1 .0 in let lens = pre .1 .1 .1 .1 in let lp = c .before .before .before .before .before .before .before .before .before .before .before .before .before .before .before .before .loop in let w = lp .inv .1 .0 in let r = c .before .before .before .before .before .note-held .result in (
+  omega (arith, c .before .before .before .before .before .before .before .before .before .before .before .before .before .before .before .loop-test .taken),
   (
     (length-set (lp .low) (lp .p) (r .beneath .low) ∙ w .0, (length-set (lp .high) (lp .p) (r .beneath .high) ∙ w .1 .0, (length-set (lp .forklow) (lp .p) (r .forks .low) ∙ w .1 .1 .0, (length-set (lp .forkhigh) (lp .p) (r .forks .high) ∙ w .1 .1 .1 .0, (length-set (lp .tops) (lp .p) (r .ballot) ∙ w .1 .1 .1 .1 .0, (length-set (lp .learners) (lp .p) (r .learners) ∙ w .1 .1 .1 .1 .1 .0, (length-set (lp .fresh) (lp .p) (r .fresh) ∙ w .1 .1 .1 .1 .1 .1 .0, length-set (lp .forms) (lp .p) (r .form) ∙ w .1 .1 .1 .1 .1 .1 .1))))))),
-    pass-more (heldGraph (a .acceptors) (a .l) (a .lists .now) (a .masks .now)) (a .ids .now) (a .kinds .now) (a .signers .now) (a .ballots .now) (a .previous .now) (a .counts .now) (a .references .now) (a .n) fit (lp .p) (c .before .before .before .before .before .before .before .before .before .before .before .before .loop-test .taken) (lp .low) (lp .high) (lp .forklow) (lp .forkhigh) (lp .tops) (lp .learners) (lp .fresh) (lp .forms) (w .0) (w .1 .0) (w .1 .1 .0) (w .1 .1 .1 .0) (w .1 .1 .1 .1 .0) (w .1 .1 .1 .1 .1 .0) (w .1 .1 .1 .1 .1 .1 .0) (w .1 .1 .1 .1 .1 .1 .1) (lp .inv .1 .1) r
-        (c .before .before .note-held .ensures (a .ids .now) (c .before .before .before .before .before .before .before .before .before .before .before .before .before .before .names-of .ensures .1) (lp .inv .1 .1)),
+    (
+      pass-more (heldGraph (a .acceptors) (a .l) (a .lists .now) (a .masks .now)) (a .ids .now) (a .kinds .now) (a .signers .now) (a .ballots .now) (a .previous .now) (a .counts .now) (a .references .now) (a .n) fit (lp .p) (c .before .before .before .before .before .before .before .before .before .before .before .before .before .before .before .loop-test .taken) (lp .low) (lp .high) (lp .forklow) (lp .forkhigh) (lp .tops) (lp .learners) (lp .fresh) (lp .forms) (w .0) (w .1 .0) (w .1 .1 .0) (w .1 .1 .1 .0) (w .1 .1 .1 .1 .0) (w .1 .1 .1 .1 .1 .0) (w .1 .1 .1 .1 .1 .1 .0) (w .1 .1 .1 .1 .1 .1 .1) (lp .inv .1 .1 .0) r
+          (c .before .before .before .before .before .note-held .ensures (a .ids .now) (c .before .before .before .before .before .before .before .before .before .before .before .before .before .before .before .before .before .names-of .ensures .1) (lp .inv .1 .1 .0)),
+      marked-more (lp .forklow) (lp .forkhigh) (w .1 .1 .0) (w .1 .1 .1 .0) (lp .p) (let few = fit .held in let go = c .before .before .before .before .before .before .before .before .before .before .before .before .before .before .before .loop-test .taken in omega arith) (lp .forked .low) (lp .forked .high) (lp .inv .1 .1 .1) (r .forks .low) (r .forks .high) (c .with-place .result .low) (c .with-place .result .high) (c .with-place .ensures),
+    ),
   ),
 )
 
 returns : tie.Need-returns Inv-loop μ-loop
 returns c = let a = c .before .before .before .before .before .before .before .before .before .before .before .before .args in let pre = c .before .before .before .before .before .before .before .before .before .before .before .before .pre in let fit = pre .1 .1 .1 .0 in let lens = pre .1 .1 .1 .1 in let lp = c .before .loop in let e : lp .p ≡ a .n = omega arith in
-    (c .before .before .names-of .ensures .1, subst (λ (k : ℕ). Known (heldGraph (a .acceptors) (a .l) (a .lists .now) (a .masks .now)) (tableIn (a .ids .now) (a .kinds .now) (a .signers .now) (a .ballots .now) (a .previous .now) (a .counts .now) (a .references .now) k) (a .kinds .now) (a .signers .now) (lp .low) (lp .high) (lp .forklow) (lp .forkhigh) (lp .tops) (lp .learners) (lp .fresh) (lp .forms)) e (lp .inv .1 .1))
+    (c .before .before .names-of .ensures .1, subst (λ (k : ℕ). Known (heldGraph (a .acceptors) (a .l) (a .lists .now) (a .masks .now)) (tableIn (a .ids .now) (a .kinds .now) (a .signers .now) (a .ballots .now) (a .previous .now) (a .counts .now) (a .references .now) k) (a .kinds .now) (a .signers .now) (lp .low) (lp .high) (lp .forklow) (lp .forkhigh) (lp .tops) (lp .learners) (lp .fresh) (lp .forms)) e (lp .inv .1 .1 .0))
 
 pub work-out-spec : {M : Type 1} → statement M
 work-out-spec =
@@ -179,6 +189,7 @@ work-out-spec =
     array-write-learners
     array-write-fresh
     array-write-forms
+    with-place-requires
     add-p
     loop-less
     loop-again

@@ -1,5 +1,4 @@
-use mathlib.Core.Path.{_≡_, refl, ap, ap₂, sym, _∙_}
-use mathlib.Core.Bool.{Bool}
+use mathlib.Core.Path.{_≡_, refl, ap, sym, _∙_}
 use Prim.Native.Nat.{ℕ, _≤_, _-_}
 use lib.ListN.{getD}
 use Rattle.graph.specs.Held.{heldGraph}
@@ -21,15 +20,6 @@ loop-holds : tie.Need-loop-holds Inv-loop μ-loop
 unfolding leastOf
 loop-holds c = (omega arith, λ m. refl)
 
-is-deciding-requires : tie.Need-is-deciding-requires Inv-loop μ-loop
-is-deciding-requires c κs = search needs
-
-mul-lower : tie.Need-mul-lower Inv-loop μ-loop
-mul-lower c = search needs
-
-shared-slice-read-lower : tie.Need-shared-slice-read-lower Inv-loop μ-loop
-shared-slice-read-lower c = search needs
-
 lower-requires : tie.Need-lower-requires Inv-loop μ-loop
 lower-requires c κs = search needs
 
@@ -41,9 +31,9 @@ loop-less c = search needs
 
 loop-again : tie.Need-loop-again Inv-loop μ-loop
 unfolding leastOf
-loop-again c = let a = c .before .before .before .before .before .before .before .before .before .before .before .before .args in let l = c .before .before .before .before .loop in (
+loop-again c = let a = c .before .before .before .before .before .before .before .before .before .before .args in let l = c .before .before .loop in (
   omega arith,
-  λ m. c .lower .ensures ∙ ap₂ (λ (p : Least) (b : Bool). lowered p b (getD (a .tops .now) (l .j) 0)) (l .inv .1 m) (c .before .before .is-deciding .ensures m)
+  λ m. c .lower .ensures m ∙ ap (λ (p : Least). lowered p (isDeciding (heldGraph (a .acceptors) m (a .lists .now) (a .masks .now)) (a .known .now) (a .forms .now) (a .learners .now) (a .tops .now) (a .signers .now) (a .n) (a .a) (a .other) (a .v) (l .j)) (getD (a .tops .now) (l .j) 0)) (l .inv .1 m)
       ∙ sym (ap (leastOf (isDeciding (heldGraph (a .acceptors) m (a .lists .now) (a .masks .now)) (a .known .now) (a .forms .now) (a .learners .now) (a .tops .now) (a .signers .now) (a .n) (a .a) (a .other) (a .v)) (λ j. getD (a .tops .now) j 0)) (add-one (l .j))),
 )
 
@@ -57,9 +47,6 @@ least-deciding-spec =
     Inv-loop
     μ-loop
     loop-holds
-    is-deciding-requires
-    mul-lower
-    shared-slice-read-lower
     lower-requires
     add-j
     loop-less

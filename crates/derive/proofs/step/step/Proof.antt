@@ -16,8 +16,8 @@ under-requires c κs = search needs
 forking-requires : tie.Need-forking-requires
 forking-requires c κs = search needs
 
-caught-in-requires : tie.Need-caught-in-requires
-caught-in-requires c κs = search needs
+caught-within-requires : tie.Need-caught-within-requires
+caught-within-requires c κs = let p = c .before .before .before .before .before .before .before .before .before .before .before .before .before .before .before .before .before .pre .0 in (p .heldFit, (p .signersFit, (p .forkLowFit, (p .forkHighFit, c .before .before .before .before .before .before .before .before .before .before .before .before .before .before .before .before .before .pre .1))))
 
 meet-requires : tie.Need-meet-requires
 meet-requires c κs = search needs
@@ -32,37 +32,31 @@ value-requires : tie.Need-value-requires
 value-requires c κs = search needs
 
 opposing-requires : tie.Need-opposing-requires
-opposing-requires c κs = let p = c .before .before .before .before .before .before .before .before .before .before .before .before .before .before .before .before .before .before .before .before .before .before .pre in let few = p .learnersFit in let k = c .before .count-if .ensures .1 in (omega arith, (p .heldFit, (p .formsFit, (p .learnedFit, (p .signersFit, p .topsFit)))))
+opposing-requires c κs = let p = c .before .before .before .before .before .before .before .before .before .before .before .before .before .before .before .before .before .before .before .before .before .before .pre .0 in let few = p .learnersFit in let k = c .before .count-if .ensures .1 in (omega arith, (p .heldFit, (p .formsFit, (p .learnedFit, (p .signersFit, p .topsFit)))))
 
 fresh-for-requires : tie.Need-fresh-for-requires
-fresh-for-requires c κs = let p = c .before .before .before .before .before .before .before .before .before .before .before .before .before .before .before .before .before .before .before .before .before .before .before .pre in let few = p .learnersFit in let k = c .before .before .count-if .ensures .1 in (omega arith, (few, p .sized))
+fresh-for-requires c κs = let p = c .before .before .before .before .before .before .before .before .before .before .before .before .before .before .before .before .before .before .before .before .before .before .before .pre .0 in let few = p .learnersFit in let k = c .before .before .count-if .ensures .1 in (omega arith, (few, p .sized))
 
 count-if-requires-2 : tie.Need-count-if-requires-2
 count-if-requires-2 c κs = search needs
 
 learners-for-requires : tie.Need-learners-for-requires
-learners-for-requires c κs = let p = c .before .before .before .before .before .before .before .before .before .before .before .before .before .before .before .before .before .before .before .before .before .before .before .before .before .before .pre in let few = p .learnersFit in let k = c .count-if2 .ensures .1 in (p .acceptorsFit, (p .sized, (omega arith, (p .heldFit, (p .formsFit, (p .freshFit, (p .topsFit, p .signersFit)))))))
-
-is-crowded-requires : tie.Need-is-crowded-requires
-is-crowded-requires c κs = let p = c .before .before .before .before .before .before .before .before .before .before .before .before .before .before .before .before .before .before .before .before .before .before .before .before .before .before .before .pre in let few = p .learnersFit in (p .heldFit, (p .kindsFit, (p .namesFit, p .topsFit)))
-
-is-grounded-requires : tie.Need-is-grounded-requires
-is-grounded-requires c κs = let p = c .before .before .before .before .before .before .before .before .before .before .before .before .before .before .before .before .before .before .before .before .before .before .before .before .before .before .before .before .pre in let few = p .learnersFit in (p .heldFit, p .kindsFit)
+learners-for-requires c κs = let p = c .before .before .before .before .before .before .before .before .before .before .before .before .before .before .before .before .before .before .before .before .before .before .before .before .before .before .pre .0 in let few = p .learnersFit in let k = c .count-if2 .ensures .1 in (p .acceptorsFit, (p .sized, (omega arith, (p .heldFit, (p .formsFit, (p .freshFit, (p .topsFit, p .signersFit)))))))
 
 form-of-requires : tie.Need-form-of-requires
 form-of-requires c κs = search needs
 
 returns : tie.Need-returns
-returns c = let a = c .before .before .before .before .before .before .before .before .before .before .before .before .before .before .before .before .before .before .before .before .before .before .before .before .before .before .before .before .before .before .before .before .args in let p = c .before .before .before .before .before .before .before .before .before .before .before .before .before .before .before .before .before .before .before .before .before .before .before .before .before .before .before .before .before .before .before .before .pre in let s = c .before .before .before .before .before .before .before .before .before .before .before .before .before .before .before .before .under .result in
+returns c = let a = c .before .before .before .before .before .before .before .before .before .before .before .before .before .before .before .before .before .before .before .before .before .before .before .before .before .before .before .before .args in let p = c .before .before .before .before .before .before .before .before .before .before .before .before .before .before .before .before .before .before .before .before .before .before .before .before .before .before .before .before .pre .0 in let s = c .before .before .before .before .before .before .before .before .before .before .before .before .under .result in
     λ t id prev e kn ca. told (heldGraph (a .acceptors) (a .l) (a .counts .now) (a .masks .now)) t (a .kinds .now) (a .signers .now) (a .names .now) (a .previous .now)
     (a .low .now) (a .high .now) (a .fork-low .now) (a .fork-high .now) (a .tops .now) (a .learners .now) (a .fresh .now) (a .forms .now) (a .places .now)
-    kn id (a .signer) prev (a .name) (a .link) (a .n) e (p .heldFit) ca (s .low) (s .high) (s .ballot) (s .offered) (c .before .before .before .before .before .before .before .before .before .before .before .before .before .before .before .before .under .ensures)
-    (c .before .before .before .before .before .before .before .before .before .before .before .before .before .before .before .forking .result .low) (c .before .before .before .before .before .before .before .before .before .before .before .before .before .before .before .forking .result .high) (c .before .before .before .before .before .before .before .before .before .before .before .before .before .before .caught-in .result) (c .before .before .before .before .before .before .before .before .before .before .before .before .with-acceptor .result) (c .before .before .before .before .before .before .before .before .before .opposing .result) (c .before .before .before .before .before .before .before .before .fresh-for .result)
-    (c .before .before .before .before .before .learners-for .result) (c .before .before .before .before .before .before .before .before .before .before .before .count-if .result) (c .before .before .before .before .before .before .count-if2 .result) (c .before .before .before .before .before .before .before .before .before .before .value .result) (c .before .before .form-of .result) (c .before .before .before .before .is-crowded .result) (c .before .before .before .is-grounded .result)
-    (p .acceptorsFit) (c .before .before .before .before .before .before .before .before .before .before .before .before .before .before .before .forking .ensures) (c .before .before .before .before .before .before .before .before .before .before .before .before .before .before .caught-in .ensures)
-    (λ q h. c .before .before .before .before .before .before .before .before .before .before .before .before .with-acceptor .ensures q h ∙ ap (λ (z : Bool). (z && eqb (a .signer) q) || has (c .before .before .before .before .before .before .before .before .before .before .before .before .before .before .caught-in .result) q) (c .before .before .before .before .before .before .before .before .before .before .before .before .before .meet .ensures))
-    (c .before .before .before .before .before .before .before .before .before .before .before .count-if .ensures .0) (c .before .before .before .before .before .before .before .before .before .before .value .ensures) (c .before .before .before .before .before .before .before .before .before .opposing .ensures) (c .before .before .before .before .before .before .before .before .fresh-for .ensures (a .l)) (c .before .before .before .before .before .before .count-if2 .ensures .0)
-    (c .before .before .before .before .before .learners-for .ensures (a .l)) (c .before .before .before .before .is-crowded .ensures) (c .before .before .before .is-grounded .ensures) (c .before .before .form-of .ensures)
+    kn id (a .signer) prev (a .name) (a .link) (a .n) e (p .heldFit) ca (s .low) (s .high) (s .ballot) (s .offered) (c .before .before .before .before .before .before .before .before .before .before .before .before .under .ensures)
+    (c .before .before .before .before .before .before .before .before .before .before .before .forking .result .low) (c .before .before .before .before .before .before .before .before .before .before .before .forking .result .high) (c .before .before .before .before .before .before .before .before .before .before .caught-within .result) (c .before .before .before .before .before .before .before .before .with-acceptor .result) (c .before .before .before .before .before .opposing .result) (c .before .before .before .before .fresh-for .result)
+    (c .before .learners-for .result) (c .before .before .before .before .before .before .before .count-if .result) (c .before .before .count-if2 .result) (c .before .before .before .before .before .before .value .result) (c .form-of .result)
+    (p .acceptorsFit) (c .before .before .before .before .before .before .before .before .before .before .before .forking .ensures) (c .before .before .before .before .before .before .before .before .before .before .caught-within .ensures)
+    (λ q h. c .before .before .before .before .before .before .before .before .with-acceptor .ensures q h ∙ ap (λ (z : Bool). (z && eqb (a .signer) q) || has (c .before .before .before .before .before .before .before .before .before .before .caught-within .result) q) (c .before .before .before .before .before .before .before .before .before .meet .ensures))
+    (c .before .before .before .before .before .before .before .count-if .ensures .0) (c .before .before .before .before .before .before .value .ensures) (c .before .before .before .before .before .opposing .ensures) (c .before .before .before .before .fresh-for .ensures (a .l)) (c .before .before .count-if2 .ensures .0)
+    (c .before .learners-for .ensures (a .l)) (c .form-of .ensures)
 
 pub step-spec : {M : Type 1} → statement M
 step-spec =
@@ -70,7 +64,7 @@ step-spec =
     (tie.spec
     under-requires
     forking-requires
-    caught-in-requires
+    caught-within-requires
     meet-requires
     with-acceptor-requires
     count-if-requires
@@ -79,7 +73,5 @@ step-spec =
     fresh-for-requires
     count-if-requires-2
     learners-for-requires
-    is-crowded-requires
-    is-grounded-requires
     form-of-requires
     returns)

@@ -1,36 +1,40 @@
-use mathlib.Core.Path.{_≡_, _∙_}
-use mathlib.Core.Bool.{_&&_}
+use mathlib.Core.Path.{_≡_, ap, _∙_}
 use Prim.Native.Nat.{ℕ, _≤_, _<_, _-_}
-use lib.ListN.{getD}
+use mathlib.Core.Bool.{_&&_}
 use lib.Dec.{eqb}
+use lib.ListN.{length, getD, getD-replicate}
 use Rattle.base.specs.Tests.{any, below}
 use Rattle.base.specs.Sets.{has}
 use Rattle.scan.proofs.Loops.{put-again, any-done}
 use Rattle.scan.proofs.Membership.{has-zero}
-use Rattle.scan.specs.Arrays.{isBacker}
+use Rattle.scan.specs.Arrays.{isBacker, backedBy}
 use borrow.Author.Needs.{needs}
 use native.Mathlib.Omega.{arith}
 use Rattle.scan.proofs.learners.backers.Statement.{statement}
 use Rattle.scan.proofs.learners.backers.Tie as tie
 
+-- the sets hold the signers among the places below j
 abbrev Inv-loop : tie.InvT-loop
-Inv-loop forms fresh tops signers n low high a ballot mask₀ j₀ mask j = (j ≤ n) × ((p : ℕ) → p < 32 → has mask p ≡ any (λ j. isBacker forms fresh tops low high a ballot j && eqb (getD signers j 0) p) (below j))
+Inv-loop forms fresh tops signers k n low high ballot sets₀ j₀ sets j = (j ≤ n) × ((length sets ≡ 8) × ((a p : ℕ) → a < k → p < 32 → has (getD sets a 0) p ≡ backedBy forms fresh tops signers j low high ballot a p))
 
 abbrev μ-loop : tie.MeasureT-loop
-μ-loop forms fresh tops signers n low high a ballot mask₀ j₀ mask j = n - j
+μ-loop forms fresh tops signers k n low high ballot sets₀ j₀ sets j = n - j
 
 loop-holds : tie.Need-loop-holds Inv-loop μ-loop
 unfolding any below
-loop-holds c = (omega arith, λ p h. has-zero p)
+loop-holds c = let few = c .before .before .before .before .pre .0 in (omega arith, (search needs, λ x p h m. ap (λ (y : ℕ). has y p) (getD-replicate 8 x 0 0 (omega arith)) ∙ has-zero p))
 
-is-backer-requires : tie.Need-is-backer-requires Inv-loop μ-loop
-is-backer-requires c κs = search needs
+fresh-at-requires : tie.Need-fresh-at-requires Inv-loop μ-loop
+fresh-at-requires c κs = search needs
 
-shared-slice-read-with-acceptor : tie.Need-shared-slice-read-with-acceptor Inv-loop μ-loop
-shared-slice-read-with-acceptor c = search needs
+slice-aggregate-put-backer : tie.Need-slice-aggregate-put-backer Inv-loop μ-loop
+slice-aggregate-put-backer c = search needs
 
-with-acceptor-requires : tie.Need-with-acceptor-requires Inv-loop μ-loop
-with-acceptor-requires c κs = search needs
+shared-slice-read-put-backer : tie.Need-shared-slice-read-put-backer Inv-loop μ-loop
+shared-slice-read-put-backer c = search needs
+
+put-backer-requires : tie.Need-put-backer-requires Inv-loop μ-loop
+put-backer-requires c κs = search needs
 
 add-j : tie.Need-add-j Inv-loop μ-loop
 add-j c = search needs
@@ -39,10 +43,16 @@ loop-less : tie.Need-loop-less Inv-loop μ-loop
 loop-less c = search needs
 
 loop-again : tie.Need-loop-again Inv-loop μ-loop
-loop-again c = let a = c .before .before .before .before .before .before .before .before .before .args in let l = c .before .before .before .before .loop in (omega arith, λ p h. put-again (isBacker (a .forms .now) (a .fresh .now) (a .tops .now) (a .low) (a .high) (a .a) (a .ballot)) (λ j. getD (a .signers .now) j 0) (l .j) p (c .before .before .is-backer .result) _ _ (c .with-acceptor .ensures p h) (c .before .before .is-backer .ensures) (l .inv .1 p h))
+loop-again c = let a = c .before .before .before .before .before .before .before .before .before .before .before .args in let l = c .before .before .before .before .before .before .loop in (
+  omega arith,
+  (
+    search needs,
+    λ x p h m. put-again (isBacker (a .forms .now) (a .fresh .now) (a .tops .now) (a .low) (a .high) x (a .ballot)) (λ j. getD (a .signers .now) j 0) (l .j) p (has (c .before .before .before .before .fresh-at .result) x) _ _ (c .before .put-backer .ensures x p h m) (c .before .before .before .before .fresh-at .ensures x) (l .inv .1 .1 x p h m),
+  ),
+)
 
 returns : tie.Need-returns Inv-loop μ-loop
-returns c = let a = c .before .before .before .before .before .before .args in let l = c .before .loop in λ p h. l .inv .1 p h ∙ any-done (λ j. isBacker (a .forms .now) (a .fresh .now) (a .tops .now) (a .low) (a .high) (a .a) (a .ballot) j && eqb (getD (a .signers .now) j 0) p) (l .j) (a .n) (l .inv .0) (c .loop-test .left)
+returns c = let a = c .before .before .before .before .before .before .args in let l = c .before .loop in (l .inv .1 .0, λ x p h m. l .inv .1 .1 x p h m ∙ any-done (λ j. isBacker (a .forms .now) (a .fresh .now) (a .tops .now) (a .low) (a .high) x (a .ballot) j && eqb (getD (a .signers .now) j 0) p) (l .j) (a .n) (l .inv .0) (c .loop-test .left))
 
 pub backers-spec : {M : Type 1} → statement M
 backers-spec =
@@ -51,9 +61,10 @@ backers-spec =
     Inv-loop
     μ-loop
     loop-holds
-    is-backer-requires
-    shared-slice-read-with-acceptor
-    with-acceptor-requires
+    fresh-at-requires
+    slice-aggregate-put-backer
+    shared-slice-read-put-backer
+    put-backer-requires
     add-j
     loop-less
     loop-again

@@ -1,9 +1,11 @@
-use mathlib.Core.Path.{_≡_, refl, ap₂, _∙_}
+use mathlib.Core.Path.{_≡_, refl, sym, ap, _∙_, subst}
 use mathlib.Core.Bool.{_&&_}
 use Prim.Native.Nat.{ℕ, _≤_, _-_}
+use lib.Dec.{T}
 use Rattle.base.specs.Tests.{any, below}
 use Rattle.base.specs.Sets.{has}
-use Rattle.scan.proofs.Loops.{any-again, any-done}
+use Rattle.scan.proofs.Loops.{any-again, any-done, any-none}
+use Rattle.scan.proofs.Membership.{and-off, has-zero}
 use Rattle.graph.specs.LearnerGraph.{safeWithout}
 use Rattle.graph.specs.Held.{heldGraph}
 use borrow.Author.Needs.{needs}
@@ -17,15 +19,15 @@ Inv-loop counts masks acceptors l a caught against found₀ b₀ found b = (b �
 abbrev μ-loop : tie.MeasureT-loop
 μ-loop counts masks acceptors l a caught against found₀ b₀ found b = l - b
 
+returns : tie.Need-returns Inv-loop μ-loop
+returns c = let a = c .before .before .before .args in λ m. sym (any-none (λ b. safeWithout (heldGraph (a .acceptors) m (a .counts .now) (a .masks .now)) (a .a) b (has (a .caught)) && has (a .against) b) (a .l) (λ b l t. subst T (and-off (safeWithout (heldGraph (a .acceptors) m (a .counts .now) (a .masks .now)) (a .a) b (has (a .caught))) (has (a .against) b) (ap (λ (x : ℕ). has x b) (c .if1 .taken) ∙ has-zero b)) t))
+
 loop-holds : tie.Need-loop-holds Inv-loop μ-loop
 unfolding any below
 loop-holds c = (omega arith, λ m. refl)
 
-safe-without-requires : tie.Need-safe-without-requires Inv-loop μ-loop
-safe-without-requires c κs = search needs
-
-has-learner-requires : tie.Need-has-learner-requires Inv-loop μ-loop
-has-learner-requires c κs = search needs
+is-against-requires : tie.Need-is-against-requires Inv-loop μ-loop
+is-against-requires c κs = search needs
 
 add-b : tie.Need-add-b Inv-loop μ-loop
 add-b c = search needs
@@ -34,10 +36,10 @@ loop-less : tie.Need-loop-less Inv-loop μ-loop
 loop-less c = search needs
 
 loop-again : tie.Need-loop-again Inv-loop μ-loop
-loop-again c = let a = c .before .before .before .before .before .before .args in let l = c .before .before .before .loop in (omega arith, λ m. any-again (λ b. safeWithout (heldGraph (a .acceptors) m (a .counts .now) (a .masks .now)) (a .a) b (has (a .caught)) && has (a .against) b) (l .b) _ (l .found) (ap₂ _&&_ (c .before .safe-without .ensures m) (c .has-learner .ensures)) (l .inv .1 m))
+loop-again c = let a = c .before .before .before .before .before .before .args in let l = c .before .before .loop in (omega arith, λ m. any-again (λ b. safeWithout (heldGraph (a .acceptors) m (a .counts .now) (a .masks .now)) (a .a) b (has (a .caught)) && has (a .against) b) (l .b) (c .is-against .result) (l .found) (c .is-against .ensures m) (l .inv .1 m))
 
-returns : tie.Need-returns Inv-loop μ-loop
-returns c = let a = c .before .before .before .before .args in let l = c .before .loop in λ m. l .inv .1 m ∙ any-done (λ b. safeWithout (heldGraph (a .acceptors) m (a .counts .now) (a .masks .now)) (a .a) b (has (a .caught)) && has (a .against) b) (l .b) (a .l) (l .inv .0) (c .loop-test .left)
+returns-2 : tie.Need-returns-2 Inv-loop μ-loop
+returns-2 c = let a = c .before .before .before .before .before .args in let l = c .before .loop in λ m. l .inv .1 m ∙ any-done (λ b. safeWithout (heldGraph (a .acceptors) m (a .counts .now) (a .masks .now)) (a .a) b (has (a .caught)) && has (a .against) b) (l .b) (a .l) (l .inv .0) (c .loop-test .left)
 
 pub is-stale-spec : {M : Type 1} → statement M
 is-stale-spec =
@@ -45,10 +47,10 @@ is-stale-spec =
     (tie.spec
     Inv-loop
     μ-loop
+    returns
     loop-holds
-    safe-without-requires
-    has-learner-requires
+    is-against-requires
     add-b
     loop-less
     loop-again
-    returns)
+    returns-2)

@@ -1,0 +1,71 @@
+-- The set of the places that fork with one before them.
+use mathlib.Core.Path.{_≡_, sym, subst}
+use mathlib.Core.Logic.{_⊎_, inl, inr}
+use mathlib.Core.Bool.{Bool, false, not, _&&_, _||_}
+use mathlib.Core.List.{List}
+use Prim.Native.Nat.{ℕ, _+_, _-_, _≤_, _<_}
+use native.Mathlib.Decide.{decLt, ℕ-discrete}
+use native.Mathlib.Omega.{arith}
+use borrow.Author.Tests.{lt-ltb, le-ltb}
+use lib.Dec.{T, eqb, ltb, eqb→eq}
+use lib.ListN.{getD, set}
+use lib.Seq.{getD-set-same, getD-set-other}
+use Rattle.base.specs.Tests.{pick, any, below}
+use Rattle.base.specs.Sets.{has}
+use Rattle.base.proofs.Tests.{same-test, dec-T, eq→eqb, and-in, and-l, and-r, or-l, or-r, any-in, any-out, below-in, below-out}
+use Rattle.base.proofs.Sets.{first-in}
+use Rattle.scan.specs.PlaceSets.{inSet, meets}
+use Rattle.scan.specs.Arrays.{Whole, isCaught}
+use Rattle.scan.proofs.Membership.{in-zero}
+use Rattle.derive.specs.Notes.{Marked}
+
+-- a set without such places catches nobody
+pub none-caught : (signers forkLow forkHigh : List ℕ) (n lo hi low high : ℕ) → n ≤ 128 → Marked n forkLow forkHigh low high → meets lo hi low high ≡ false → (p : ℕ)
+    → any (λ j. isCaught forkLow forkHigh lo hi j && eqb (getD signers j 0) p) (below n) ≡ false
+unfolding meets
+none-caught signers forkLow forkHigh n lo hi low high small marked apart p = same-test _ _ caught (λ h. absurd h)
+  where
+    caught : T (any (λ j. isCaught forkLow forkHigh lo hi j && eqb (getD signers j 0) p) (below n)) → T false
+    caught h =
+        let (j, m, q) = any-out (λ j. isCaught forkLow forkHigh lo hi j && eqb (getD signers j 0) p) (below n) h in
+        let lj = below-out n m in
+        let c : T (isCaught forkLow forkHigh lo hi j) = and-l (isCaught forkLow forkHigh lo hi j) (eqb (getD signers j 0) p) q in
+        let (k, mk, w) = any-out (λ k. inSet lo hi k && inSet (getD forkLow j 0) (getD forkHigh j 0) k) (below 128)
+        (and-r (inSet lo hi j) (meets lo hi (getD forkLow j 0) (getD forkHigh j 0)) c) in
+        let x : T (inSet low high j) = marked j k lj (below-out 128 mk) (and-r (inSet lo hi k) (inSet (getD forkLow j 0) (getD forkHigh j 0) k) w) in
+        subst T apart (any-in (λ k. inSet lo hi k && inSet low high k) {x = j} (below-in 128 (omega arith))
+        (and-in (inSet lo hi j) (inSet low high j) (and-l (inSet lo hi j) (meets lo hi (getD forkLow j 0) (getD forkHigh j 0)) c) x))
+
+-- the set of all places has them
+pub every-marked : (n : ℕ) → n ≤ 128 → (forkLow forkHigh : List ℕ) → Marked n forkLow forkHigh 18446744073709551615 18446744073709551615
+unfolding inSet
+every-marked n small forkLow forkHigh j k lj lk h = step (decLt j 64)
+  where
+    step : Dec (j < 64) → T (pick (ltb j 64) (has 18446744073709551615 j) (has 18446744073709551615 (j - 64)))
+    step (yes l) = subst (λ (z : Bool). T (pick z (has 18446744073709551615 j) (has 18446744073709551615 (j - 64)))) (sym (lt-ltb j 64 l)) (first-in 64 j l)
+    step (no l) = subst (λ (z : Bool). T (pick z (has 18446744073709551615 j) (has 18446744073709551615 (j - 64)))) (sym (le-ltb j 64 (omega arith))) (first-in 64 (j - 64) (omega arith))
+
+-- a set with a place is not empty
+not-empty : (low high k : ℕ) → T (inSet low high k) → T (not (eqb low 0) || not (eqb high 0))
+not-empty low high k h = step (dec-T (eqb low 0)) (dec-T (eqb high 0))
+  where
+    step : T (eqb low 0) ⊎ T (not (eqb low 0)) → T (eqb high 0) ⊎ T (not (eqb high 0)) → T (not (eqb low 0) || not (eqb high 0))
+    step (inr a) b = or-l (not (eqb low 0)) (not (eqb high 0)) a
+    step (inl a) (inr b) = or-r (not (eqb low 0)) (not (eqb high 0)) b
+    step (inl a) (inl b) =
+        absurd (subst T (in-zero k) (subst (λ (x : ℕ). T (inSet x 0 k)) (eqb→eq low 0 a) (subst (λ (x : ℕ). T (inSet low x k)) (eqb→eq high 0 b) h)))
+
+-- one place more
+pub marked-more : (forkLow forkHigh : List ℕ) → Whole forkLow → Whole forkHigh → (p : ℕ) → p < 128 → (low high : ℕ) → Marked p forkLow forkHigh low high → (fl fh low′ high′ : ℕ)
+    → ((q : ℕ) → q < 128 → inSet low′ high′ q ≡ (((not (eqb fl 0) || not (eqb fh 0)) && eqb p q) || inSet low high q))
+    → Marked (p + 1) (set forkLow p fl) (set forkHigh p fh) low′ high′
+marked-more forkLow forkHigh w₁ w₂ p small low high marked fl fh low′ high′ hs j k lj lk h = subst T (sym (hs j (omega arith))) (step (ℕ-discrete j p))
+  where
+    step : Dec (j ≡ p) → T (((not (eqb fl 0) || not (eqb fh 0)) && eqb p j) || inSet low high j)
+    step (yes e) =
+        let x : T (inSet (getD (set forkLow p fl) p 0) (getD (set forkHigh p fh) p 0) k) = subst (λ (i : ℕ). T (inSet (getD (set forkLow p fl) i 0) (getD (set forkHigh p fh) i 0) k)) e h in
+        let y : T (inSet fl fh k) = rw (getD-set-same forkLow p fl 0 (omega arith), getD-set-same forkHigh p fh 0 (omega arith)) at x in
+        or-l ((not (eqb fl 0) || not (eqb fh 0)) && eqb p j) (inSet low high j) (and-in (not (eqb fl 0) || not (eqb fh 0)) (eqb p j) (not-empty fl fh k y) (eq→eqb (sym e)))
+    step (no e) =
+        let y : T (inSet (getD forkLow j 0) (getD forkHigh j 0) k) = rw (getD-set-other forkLow p j fl 0 e, getD-set-other forkHigh p j fh 0 e) at h in
+        or-r ((not (eqb fl 0) || not (eqb fh 0)) && eqb p j) (inSet low high j) (marked j k (omega arith) lk y)
