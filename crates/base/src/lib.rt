@@ -1,4 +1,4 @@
-// What every layer leans on: bytes widened, big-endian numbers read and written by shifts, bytes copied.
+// What every layer leans on: bytes widened, big-endian numbers read and written by shifts, bytes copied, the value of a ballot.
 
 pub mod refusal;
 
@@ -6,6 +6,7 @@ ghost use mathlib.Core.Path.{_≡_};
 ghost use mathlib.Core.List.{[], _∷_};
 ghost use Prim.Native.Nat.{_+_, _≤_, _<_};
 ghost use lib.ListN.{length};
+ghost use Rattle.base.specs.Ballots.{valueOf};
 ghost use Rattle.base.specs.Bytes.{be, bytes, putAt};
 
 // A byte as an index; the caller learns that it is below 256.
@@ -20,6 +21,13 @@ pub fn wide(x: u8) -> u64
     ensures { λ r. ⌜ (r ≡ x) × (r < 256) ⌝ }
 {
     x as u64
+}
+
+// The value of a ballot: its lower 32 bits.
+pub fn value(ballot: u64) -> u64
+    ensures { λ r. ⌜ r ≡ valueOf ballot ⌝ }
+{
+    ballot & 0xFFFF_FFFF
 }
 
 // The number in two bytes.

@@ -1,11 +1,10 @@
 -- Lists of numbers below a bound, and what keeps them below it.
 use mathlib.Core.Path.{sym, subst}
 use mathlib.Core.List.{List, [], _∷_, _++_}
-use Prim.Native.Nat.{ℕ, zero, suc, _+_, _^_, _<_}
-use native.Mathlib.Omega.{arith}
+use Prim.Native.Nat.{ℕ, zero, suc, _+_, _<_}
 use lib.ListN.{length, getD, set, take, drop, replicate}
 use lib.Seq.{getD-drop}
-use Rattle.base.specs.Bytes.{be, putAt, Octets}
+use Rattle.base.specs.Bytes.{putAt}
 use Rattle.round.proofs.GraphFits.{zeros-at}
 
 module _ (B : ℕ) (some : 0 < B) where
@@ -40,12 +39,3 @@ module _ (B : ℕ) (some : 0 < B) where
 
   pub below-zeros : (n : ℕ) → Below (replicate n 0)
   below-zeros n i = subst (λ (x : ℕ). x < B) (sym (zeros-at n i)) some
-
--- ---- numbers of two and of eight bytes
-pub be-two : (s : List ℕ) (at : ℕ) → Octets s → be 2 s at < 256 ^ 2
-unfolding be
-be-two s at o = omega (arith, o (at + 0), o (at + 1))
-
-pub be-eight : (s : List ℕ) (at : ℕ) → Octets s → be 8 s at < 256 ^ 8
-unfolding be
-be-eight s at o = omega (arith, o (at + 0), o (at + 1), o (at + 2), o (at + 3), o (at + 4), o (at + 5), o (at + 6), o (at + 7))

@@ -35,7 +35,7 @@ use Rattle.round.proofs.OneCall.{refused-leaves-all}
 use Rattle.round.proofs.Lists.{refused-or-not}
 use Rattle.round.proofs.Sha256.{sha256IsIdRule}
 use Rattle.roundbytes.specs.Layout.{Laid}
-use Rattle.capi.proofs.Bounds.{be-eight}
+use Rattle.roundbytes.proofs.Typing.{be-eight}
 use Rattle.capi.proofs.Bounds as bounds
 
 -- ---- ballots of eight bytes

@@ -23,7 +23,7 @@ use Rattle.round.specs.declared.Round.{Round}
 use Rattle.round.specs.Demands.{Starts}
 use Rattle.round.proofs.JustOpened.{opens}
 use Rattle.roundbytes.specs.Layout as layout
-use Rattle.capi.proofs.Bounds.{be-two}
+use Rattle.roundbytes.proofs.Typing.{be-two}
 use Rattle.capi.proofs.Bounds as bounds
 
 abbrev Masks : List ℕ → Type 0

@@ -7,7 +7,6 @@ use round::Opening;
 use round::Outcome;
 use round::Report;
 use roundbytes::ROUND_LEN;
-use roundbytes::decode;
 use roundbytes::encode;
 ghost use mathlib.Core.Path.{_≡_};
 ghost use Prim.Native.Nat.{_≤_};
@@ -83,19 +82,9 @@ pub extern "C" fn hpaxos_deliver(round: &mut [u8], message: &[u8], reply: &mut [
     if round.len() < ROUND_LEN {
         return number(Refusal::Argument);
     }
-    let held = decode(round);
-    let given = engine::deliver(held, message, reply);
-    let outcome = given.outcome;
-    let next = given.round;
-    match outcome {
-        Outcome::Accepted => {
-            encode(next, round);
-            NO_REPLY
-        }
-        Outcome::Replied(len) => {
-            encode(next, round);
-            REPLY + len as u32
-        }
+    match engine::deliver_in(round, message, reply) {
+        Outcome::Accepted => NO_REPLY,
+        Outcome::Replied(len) => REPLY + len as u32,
         Outcome::Refused(e) => number(e),
     }
 }
@@ -120,7 +109,7 @@ pub extern "C" fn hpaxos_report(round: &[u8], learner: u8, out: &mut [u8]) -> u3
     if out.len() < REPORT_LEN {
         return number(Refusal::Argument);
     }
-    match engine::report(decode(round), learner) {
+    match engine::report_in(round, learner) {
         Report::Undecided => put_report(out, UNDECIDED, 0, 0),
         Report::Decided(x) => put_report(out, DECIDED, x, 0),
         Report::Split(x, y) => put_report(out, SPLIT, x, y),

@@ -10,3 +10,5 @@ pub mod Marking
 pub mod Verdicts
 -- Names and ids
 pub mod Naming
+-- The places that are asked for a message
+pub mod Walking

@@ -1,49 +1,19 @@
 -- The set of the places that fork with one before them.
 use mathlib.Core.Path.{_≡_, sym, subst}
 use mathlib.Core.Logic.{_⊎_, inl, inr}
-use mathlib.Core.Bool.{Bool, false, not, _&&_, _||_}
+use mathlib.Core.Bool.{not, _&&_, _||_}
 use mathlib.Core.List.{List}
-use Prim.Native.Nat.{ℕ, _+_, _-_, _≤_, _<_}
-use native.Mathlib.Decide.{decLt, ℕ-discrete}
+use Prim.Native.Nat.{ℕ, _+_, _<_}
+use native.Mathlib.Decide.{ℕ-discrete}
 use native.Mathlib.Omega.{arith}
-use borrow.Author.Tests.{lt-ltb, le-ltb}
-use lib.Dec.{T, eqb, ltb, eqb→eq}
+use lib.Dec.{T, eqb, eqb→eq}
 use lib.ListN.{getD, set}
 use lib.Seq.{getD-set-same, getD-set-other}
-use Rattle.base.specs.Tests.{pick, any, below}
-use Rattle.base.specs.Sets.{has}
-use Rattle.base.proofs.Tests.{same-test, dec-T, eq→eqb, and-in, and-l, and-r, or-l, or-r, any-in, any-out, below-in, below-out}
-use Rattle.base.proofs.Sets.{first-in}
-use Rattle.scan.specs.PlaceSets.{inSet, meets}
-use Rattle.scan.specs.Arrays.{Whole, isCaught}
+use Rattle.base.proofs.Tests.{dec-T, eq→eqb, and-in, or-l, or-r}
+use Rattle.scan.specs.PlaceSets.{inSet}
+use Rattle.scan.specs.Arrays.{Whole}
 use Rattle.scan.proofs.Membership.{in-zero}
 use Rattle.derive.specs.Notes.{Marked}
-
--- a set without such places catches nobody
-pub none-caught : (signers forkLow forkHigh : List ℕ) (n lo hi low high : ℕ) → n ≤ 128 → Marked n forkLow forkHigh low high → meets lo hi low high ≡ false → (p : ℕ)
-    → any (λ j. isCaught forkLow forkHigh lo hi j && eqb (getD signers j 0) p) (below n) ≡ false
-unfolding meets
-none-caught signers forkLow forkHigh n lo hi low high small marked apart p = same-test _ _ caught (λ h. absurd h)
-  where
-    caught : T (any (λ j. isCaught forkLow forkHigh lo hi j && eqb (getD signers j 0) p) (below n)) → T false
-    caught h =
-        let (j, m, q) = any-out (λ j. isCaught forkLow forkHigh lo hi j && eqb (getD signers j 0) p) (below n) h in
-        let lj = below-out n m in
-        let c : T (isCaught forkLow forkHigh lo hi j) = and-l (isCaught forkLow forkHigh lo hi j) (eqb (getD signers j 0) p) q in
-        let (k, mk, w) = any-out (λ k. inSet lo hi k && inSet (getD forkLow j 0) (getD forkHigh j 0) k) (below 128)
-        (and-r (inSet lo hi j) (meets lo hi (getD forkLow j 0) (getD forkHigh j 0)) c) in
-        let x : T (inSet low high j) = marked j k lj (below-out 128 mk) (and-r (inSet lo hi k) (inSet (getD forkLow j 0) (getD forkHigh j 0) k) w) in
-        subst T apart (any-in (λ k. inSet lo hi k && inSet low high k) {x = j} (below-in 128 (omega arith))
-        (and-in (inSet lo hi j) (inSet low high j) (and-l (inSet lo hi j) (meets lo hi (getD forkLow j 0) (getD forkHigh j 0)) c) x))
-
--- the set of all places has them
-pub every-marked : (n : ℕ) → n ≤ 128 → (forkLow forkHigh : List ℕ) → Marked n forkLow forkHigh 18446744073709551615 18446744073709551615
-unfolding inSet
-every-marked n small forkLow forkHigh j k lj lk h = step (decLt j 64)
-  where
-    step : Dec (j < 64) → T (pick (ltb j 64) (has 18446744073709551615 j) (has 18446744073709551615 (j - 64)))
-    step (yes l) = subst (λ (z : Bool). T (pick z (has 18446744073709551615 j) (has 18446744073709551615 (j - 64)))) (sym (lt-ltb j 64 l)) (first-in 64 j l)
-    step (no l) = subst (λ (z : Bool). T (pick z (has 18446744073709551615 j) (has 18446744073709551615 (j - 64)))) (sym (le-ltb j 64 (omega arith))) (first-in 64 (j - 64) (omega arith))
 
 -- a set with a place is not empty
 not-empty : (low high k : ℕ) → T (inSet low high k) → T (not (eqb low 0) || not (eqb high 0))

@@ -4,7 +4,7 @@ use mathlib.Core.Path.{_≡_}
 use mathlib.Core.Bool.{not, _&&_}
 use mathlib.Core.Option.{Option}
 use mathlib.Core.List.{List}
-use Prim.Native.Nat.{ℕ, _≤_, _<_}
+use Prim.Native.Nat.{ℕ, _+_, _/_, _%_, _≤_, _<_}
 use lib.Dec.{T, eqb, ltb}
 use lib.ListN.{length, getD}
 use Rattle.base.specs.Tests.{_∈_, any}
@@ -18,8 +18,9 @@ use Rattle.protocol.specs.Table.{Table, at, heldId, heldSigner, heldPrevious, o
 use Rattle.protocol.specs.Places.{is1bAt, is2aAt, ballotAt, freshAt, lrnsAt}
 use Rattle.derive.specs.declared.Worked.{Worked}
 use Rattle.derive.specs.declared.Note.{Note}
+use Rattle.derive.specs.declared.Walks.{Walks}
 use Rattle.scan.specs.PlaceSets.{inSet}
-use Rattle.scan.specs.Arrays.{Whole, isOffer}
+use Rattle.scan.specs.Arrays.{Whole, isOffer, Indexed, Grown}
 
 -- ---- the notes of place i are right: the places that it reaches, those before it that fork with it, its ballot, whether it is a 1b or a
 -- 2a, its learners, and the learners that it is fresh for
@@ -71,6 +72,66 @@ pub record Judged (G : LearnerGraph) (m : Message) (r : Note) : Type 0 where
 -- ---- each of the first n places that forks with one before it is in the set
 abbrev pub Marked : ℕ → List ℕ → List ℕ → ℕ → ℕ → Type 0
 Marked n forkLow forkHigh low high = (j k : ℕ) → j < n → k < 128 → T (inSet (getD forkLow j 0) (getD forkHigh j 0) k) → T (inSet low high j)
+
+-- ---- the index of the places: 232 sets, one for each key that a message can be looked for by. Places with other signers, links or ballots may fall
+-- into one set: a set only spares the walk over all places, and each place of it is still asked.
+abbrev pub signerKey : ℕ → ℕ
+signerKey s = s % 32
+
+-- by the name of the previous message, or 255
+abbrev pub linkKey : ℕ → ℕ
+linkKey x = 32 + x % 128
+
+-- by the upper half of the ballot
+abbrev pub ballotKey : ℕ → ℕ
+ballotKey x = 160 + x / 4294967296 % 64
+
+abbrev pub formKey : ℕ → ℕ
+formKey f = 224 + f % 4
+
+abbrev pub kindKey : ℕ → ℕ
+kindKey k = 228 + k % 4
+
+-- place j is in the set of a key
+abbrev pub Filed : List ℕ → List ℕ → ℕ → ℕ → Type 0
+Filed keyLow keyHigh k j = T (inSet (getD keyLow k 0) (getD keyHigh k 0) j)
+
+-- each of the first n places is in the sets of its keys, and in the set of those that fork where it does
+pub record Marks (n : ℕ) (kinds signers names previous forkLow forkHigh tops forms keyLow keyHigh : List ℕ) (low high : ℕ) : Type 0 where
+  pub bySigner : Indexed n (λ j. signerKey (getD signers j 0)) keyLow keyHigh
+  pub byLink : Indexed n (λ j. linkKey (getD names (getD previous j 0) 0)) keyLow keyHigh
+  pub byBallot : Indexed n (λ j. ballotKey (getD tops j 0)) keyLow keyHigh
+  pub byForm : Indexed n (λ j. formKey (getD forms j 0)) keyLow keyHigh
+  pub byKind : Indexed n (λ j. kindKey (getD kinds j 0)) keyLow keyHigh
+  pub forked : Marked n forkLow forkHigh low high
+  pub keyLowFit : length keyLow ≡ 232
+  pub keyHighFit : length keyHigh ≡ 232
+
+-- the part of the index that a report asks
+pub record Voting (n : ℕ) (tops forms keyLow keyHigh : List ℕ) : Type 0 where
+  pub byBallot : Indexed n (λ j. ballotKey (getD tops j 0)) keyLow keyHigh
+  pub byForm : Indexed n (λ j. formKey (getD forms j 0)) keyLow keyHigh
+  pub keyLowFit : length keyLow ≡ 232
+  pub keyHighFit : length keyHigh ≡ 232
+
+-- place j is put into the sets of its keys, and no set loses a place
+pub record Put (keyLow keyHigh keyLow′ keyHigh′ : List ℕ) (kind signer link ballot form j : ℕ) : Type 0 where
+  pub grown : Grown keyLow keyHigh keyLow′ keyHigh′
+  pub ofSigner : Filed keyLow′ keyHigh′ (signerKey signer) j
+  pub ofLink : Filed keyLow′ keyHigh′ (linkKey link) j
+  pub ofBallot : Filed keyLow′ keyHigh′ (ballotKey ballot) j
+  pub ofForm : Filed keyLow′ keyHigh′ (formKey form) j
+  pub ofKind : Filed keyLow′ keyHigh′ (kindKey kind) j
+  pub lowKept : length keyLow′ ≡ 232
+  pub highKept : length keyHigh′ ≡ 232
+
+-- ---- the places that are asked for a message which reaches the set (low, high), has this ballot, signer and link
+pub record Walked (keyLow keyHigh : List ℕ) (forkedLow forkedHigh low high ballot signer link : ℕ) (r : Walks) : Type 0 where
+  pub forking : (q : ℕ) → q < 128 → Filed keyLow keyHigh (signerKey signer) q → Filed keyLow keyHigh (linkKey link) q → T (inSet (r .forks .low) (r .forks .high) q)
+  pub catching : (q : ℕ) → q < 128 → T (inSet low high q) → T (inSet forkedLow forkedHigh q) → T (inSet (r .caught .low) (r .caught .high) q)
+  pub voting : (q : ℕ) → q < 128 → T (inSet low high q) → Filed keyLow keyHigh (formKey 2) q → T (inSet (r .votes .low) (r .votes .high) q)
+  pub rivalling : (q : ℕ) → q < 128 → T (inSet low high q) → Filed keyLow keyHigh (formKey 2) q → Filed keyLow keyHigh (signerKey signer) q → T (inSet (r .rivals .low) (r .rivals .high) q)
+  pub backing : (q : ℕ) → q < 128 → T (inSet low high q) → Filed keyLow keyHigh (formKey 1) q → Filed keyLow keyHigh (ballotKey ballot) q → T (inSet (r .backers .low) (r .backers .high) q)
 
 -- ---- numbers and lengths in range
 pub record Ready (acceptors l n : ℕ) (counts masks kinds signers names previous low high forkLow forkHigh tops learners fresh forms places : List ℕ) : Type 0 where

@@ -2,6 +2,7 @@
 // learners it is fresh or counts, and whether it is well-formed. One pass over the places, each from those before it; the arrays are lent.
 use scan::Places;
 
+pub mod index;
 pub mod pass;
 pub mod report;
 pub mod step;
@@ -42,6 +43,23 @@ pub struct Notes {
     pub learners: [u8; 128],
     pub fresh: [u8; 128],
     pub forms: [u8; 128],
+    // The places by the key of their ids, and by the keys of the index.
+    pub idlow: [u64; 128],
+    pub idhigh: [u64; 128],
+    pub keylow: [u64; 232],
+    pub keyhigh: [u64; 232],
+    // The places that fork with one before them.
+    pub forked: Places,
+}
+
+// The places that are asked for a message: whether they fork with it, whether one that it reaches was caught, whether one is a vote, a vote of its
+// own signer, or a 1b of its ballot.
+pub struct Walks {
+    pub forks: Places,
+    pub caught: Places,
+    pub votes: Places,
+    pub rivals: Places,
+    pub backers: Places,
 }
 
 // The least of some ballots, if there is one.

@@ -2,6 +2,10 @@
 use crate::Note;
 use crate::Notes;
 use crate::Worked;
+use crate::index::OFFERS;
+use crate::index::ballot_key;
+use crate::index::mark;
+use crate::index::within;
 use crate::step::step;
 use base::size;
 use graph::Mask;
@@ -19,12 +23,9 @@ ghost use lib.ListN.{length};
 ghost use Rattle.base.specs.Tests.{_∈_};
 ghost use Rattle.graph.specs.Held.{heldGraph, Sized};
 ghost use Rattle.protocol.specs.Table.{says, nodeBy, tree};
-ghost use Rattle.scan.specs.Arrays.{Whole, Named};
+ghost use Rattle.scan.specs.Arrays.{Whole, Named, IdsIndexed};
 ghost use Rattle.derive.specs.Records.{namedIn, tableIn, Fit, Lengths};
-ghost use Rattle.derive.specs.Notes.{NotedBy, Known, Judged, Marked, Ready};
-
-// All places of a word: for a new message, any place may be one that forks.
-const EVERY: u64 = 18446744073709551615;
+ghost use Rattle.derive.specs.Notes.{NotedBy, Known, Judged, Marks, Ready};
 
 // The held message at place p, with the place itself among those that it reaches.
 fn note_held<'a>(
@@ -45,6 +46,8 @@ fn note_held<'a>(
     learners: &'a [u8],
     fresh: &'a [u8],
     forms: &'a [u8],
+    keylow: &'a [u64],
+    keyhigh: &'a [u64],
     acceptors: u8,
     l: usize,
     n: usize,
@@ -52,7 +55,7 @@ fn note_held<'a>(
     forked: Places,
 ) -> Worked
     requires { ⌜ (p < n) × (Fit n (now kinds) (now previous) (now counts) (now references) × (Whole (now ballots) × (Whole (now counts) × ((length (now references) ≡ 16384)
-        × (Ready acceptors l n (now lists) (now masks) (now kinds) (now signers) (now names) (now previous) (now low) (now high) (now forklow) (now forkhigh) (now tops) (now learners) (now fresh) (now forms) [] × Marked p (now forklow) (now forkhigh) (forked .low) (forked .high)))))) ⌝ }
+        × (Ready acceptors l n (now lists) (now masks) (now kinds) (now signers) (now names) (now previous) (now low) (now high) (now forklow) (now forkhigh) (now tops) (now learners) (now fresh) (now forms) [] × Marks p (now kinds) (now signers) (now names) (now previous) (now forklow) (now forkhigh) (now tops) (now forms) (now keylow) (now keyhigh) (forked .low) (forked .high)))))) ⌝ }
     ensures { λ r. ⌜ ((ids : List ℕ) → Named ids n (now (names .entry))
         → Known (heldGraph acceptors l (now (lists .entry)) (now (masks .entry))) (tableIn ids (now (kinds .entry)) (now (signers .entry)) (now (ballots .entry)) (now (previous .entry)) (now (counts .entry)) (now (references .entry)) p) (now (kinds .entry)) (now (signers .entry)) (now (low .entry)) (now (high .entry)) (now (forklow .entry)) (now (forkhigh .entry)) (now (tops .entry)) (now (learners .entry)) (now (fresh .entry)) (now (forms .entry))
         → NotedBy (heldGraph acceptors l (now (lists .entry)) (now (masks .entry))) (tableIn ids (now (kinds .entry)) (now (signers .entry)) (now (ballots .entry)) (now (previous .entry)) (now (counts .entry)) (now (references .entry)) (suc p)) p r) ⌝ }
@@ -87,6 +90,8 @@ fn note_held<'a>(
         learners,
         fresh,
         forms,
+        keylow,
+        keyhigh,
         &references[from..to],
         acceptors,
         l,
@@ -128,8 +133,10 @@ pub fn work_out<'a>(
         × Lengths (now ids) (now kinds) (now signers) (now ballots) (now previous) (now counts) (now references)))) ⌝ }
     ensures { λ r. ⌜ Named (now (ids .entry)) n (r .names)
         × Known (heldGraph acceptors l (now (lists .entry)) (now (masks .entry))) (tableIn (now (ids .entry)) (now (kinds .entry)) (now (signers .entry)) (now (ballots .entry)) (now (previous .entry)) (now (counts .entry)) (now (references .entry)) n) (now (kinds .entry)) (now (signers .entry)) (r .low) (r .high) (r .forklow) (r .forkhigh) (r .tops) (r .learners) (r .fresh) (r .forms) ⌝ }
+    ensures { λ r. ⌜ IdsIndexed (now (ids .entry)) n (r .idlow) (r .idhigh)
+        × Marks n (now (kinds .entry)) (now (signers .entry)) (r .names) (now (previous .entry)) (r .forklow) (r .forkhigh) (r .tops) (r .forms) (r .keylow) (r .keyhigh) (r .forked .low) (r .forked .high) ⌝ }
 {
-    let names = names_of(ids, n);
+    let named = names_of(ids, n);
     let mut low = [0u64; 128];
     let mut high = [0u64; 128];
     let mut forklow = [0u64; 128];
@@ -138,6 +145,8 @@ pub fn work_out<'a>(
     let mut learners = [0u8; 128];
     let mut fresh = [0u8; 128];
     let mut forms = [0u8; 128];
+    let mut keylow = [0u64; 232];
+    let mut keyhigh = [0u64; 232];
     let mut forked = Places { low: 0, high: 0 };
     let mut p: usize = 0;
     while p < n {
@@ -150,7 +159,7 @@ pub fn work_out<'a>(
             previous,
             counts,
             references,
-            &names,
+            &named.names,
             &low,
             &high,
             &forklow,
@@ -159,6 +168,8 @@ pub fn work_out<'a>(
             &learners,
             &fresh,
             &forms,
+            &keylow,
+            &keyhigh,
             acceptors,
             l,
             n,
@@ -175,11 +186,23 @@ pub fn work_out<'a>(
         learners[p] = r.learners;
         fresh[p] = r.fresh;
         forms[p] = r.form;
+        let at = size(previous[p]);
+        let link = named.names[at];
+        mark(
+            &mut keylow,
+            &mut keyhigh,
+            kinds[p],
+            signers[p],
+            link,
+            r.ballot,
+            r.form,
+            p,
+        );
         forked = with_place(forked.low, forked.high, p, (f.low != 0) | (f.high != 0));
         p += 1;
     }
     Notes {
-        names,
+        names: named.names,
         low,
         high,
         forklow,
@@ -188,6 +211,11 @@ pub fn work_out<'a>(
         learners,
         fresh,
         forms,
+        idlow: named.key_low,
+        idhigh: named.key_high,
+        keylow,
+        keyhigh,
+        forked,
     }
 }
 
@@ -209,6 +237,10 @@ pub fn note_new<'a>(
     learners: &'a [u8],
     fresh: &'a [u8],
     forms: &'a [u8],
+    idlow: &'a [u64],
+    idhigh: &'a [u64],
+    keylow: &'a [u64],
+    keyhigh: &'a [u64],
     id: &'a [u8],
     places: &'a [u8],
     acceptors: u8,
@@ -216,19 +248,18 @@ pub fn note_new<'a>(
     n: usize,
     signer: u8,
     prev: u8,
+    forked: Places,
 ) -> Note
-    requires { ⌜ (length (now ids) ≡ 4096) × Ready acceptors l n (now lists) (now masks) (now kinds) (now signers) (now names) (now previous) (now low) (now high) (now forklow) (now forkhigh) (now tops) (now learners) (now fresh) (now forms) (now places) ⌝ }
+    requires { ⌜ (length (now ids) ≡ 4096) × (Ready acceptors l n (now lists) (now masks) (now kinds) (now signers) (now names) (now previous) (now low) (now high) (now forklow) (now forkhigh) (now tops) (now learners) (now fresh) (now forms) (now places)
+        × ((length (now idlow) ≡ 128) × ((length (now idhigh) ≡ 128) × (IdsIndexed (now ids) n (now idlow) (now idhigh)
+        × Marks n (now kinds) (now signers) (now names) (now previous) (now forklow) (now forkhigh) (now tops) (now forms) (now keylow) (now keyhigh) (forked .low) (forked .high))))) ⌝ }
     ensures { λ r. ⌜ ((ballots counts references : List ℕ) → Fit n (now (kinds .entry)) (now (previous .entry)) counts references → Named (now (ids .entry)) n (now (names .entry))
         → (prev ≡ 255) ⊎ (prev < n) → ((j : ℕ) → j ∈ (now (places .entry)) → j < n)
         → Known (heldGraph acceptors l (now (lists .entry)) (now (masks .entry))) (tableIn (now (ids .entry)) (now (kinds .entry)) (now (signers .entry)) ballots (now (previous .entry)) counts references n) (now (kinds .entry)) (now (signers .entry)) (now (low .entry)) (now (high .entry)) (now (forklow .entry)) (now (forkhigh .entry)) (now (tops .entry)) (now (learners .entry)) (now (fresh .entry)) (now (forms .entry))
         → Judged (heldGraph acceptors l (now (lists .entry)) (now (masks .entry))) (nodeBy (tree (tableIn (now (ids .entry)) (now (kinds .entry)) (now (signers .entry)) ballots (now (previous .entry)) counts references n)) (says (now (id .entry)) signer (namedIn (now (ids .entry)) prev) (now (places .entry)))) r) ⌝ }
 {
-    let name = name_of(ids, n, id) as u8;
+    let name = name_of(ids, n, id, idlow, idhigh) as u8;
     let at = size(prev);
-    let every = Places {
-        low: EVERY,
-        high: EVERY,
-    };
     let r = step(
         lists,
         masks,
@@ -244,6 +275,8 @@ pub fn note_new<'a>(
         learners,
         fresh,
         forms,
+        keylow,
+        keyhigh,
         places,
         acceptors,
         l,
@@ -251,11 +284,13 @@ pub fn note_new<'a>(
         signer,
         name,
         names[at],
-        every,
+        forked,
     );
     let b = r.beneath;
-    let crowded = is_crowded(kinds, names, tops, n, b.low, b.high, name, r.ballot);
-    let grounded = is_grounded(kinds, n, b.low, b.high);
+    let peers = within(keylow, keyhigh, ballot_key(r.ballot), b.low, b.high);
+    let crowded = is_crowded(kinds, names, tops, n, b.low, b.high, name, r.ballot, peers);
+    let offers = within(keylow, keyhigh, OFFERS, b.low, b.high);
+    let grounded = is_grounded(kinds, n, b.low, b.high, offers);
     Note {
         grounded,
         formed1b: (r.form != 1) | !crowded,

@@ -1,10 +1,14 @@
 // The report for a learner, from the notes of the places of a round.
 use crate::Least;
 use crate::Verdict;
+use crate::index::SECONDS;
+use crate::index::votes_of;
+use base::value;
 use graph::Mask;
 use graph::lists::is_quorum;
-use scan::learners::value;
+use scan::Places;
 use scan::sets::has_learner;
+use scan::sets::next_in;
 use scan::sets::with_acceptor;
 ghost use mathlib.Core.Path.{_≡_};
 ghost use Prim.Native.Nat.{ℕ, _≤_, _<_};
@@ -15,9 +19,9 @@ ghost use Rattle.graph.specs.LearnerGraph.{isQuorum};
 ghost use Rattle.graph.specs.Held.{heldGraph, Sized};
 ghost use Rattle.protocol.specs.Table.{Table};
 ghost use Rattle.protocol.specs.Places.{reportAt};
-ghost use Rattle.scan.specs.Arrays.{Whole};
+ghost use Rattle.scan.specs.Arrays.{Whole, Covers};
 ghost use Rattle.derive.specs.Deciding.{isKnownIn, isVoter, votersFor, isDeciding, isLower, lowered, leastOf, shown};
-ghost use Rattle.derive.specs.Notes.{Known};
+ghost use Rattle.derive.specs.Notes.{Known, Voting};
 
 // Whether place j holds a known 2a of ballot x with learner a.
 fn is_voter<'a>(
@@ -35,7 +39,7 @@ fn is_voter<'a>(
     (known[j] != 0) & (forms[j] == 2) & (tops[j] == x) & has_learner(learners[j], a)
 }
 
-// The signers of such places.
+// The signers of such places. The walk has each of them.
 fn voters<'a>(
     known: &'a [u8],
     forms: &'a [u8],
@@ -45,16 +49,18 @@ fn voters<'a>(
     n: usize,
     a: usize,
     x: u64,
+    walk: Places,
 ) -> Mask
-    requires { ⌜ (a < 8) × ((n ≤ 128) × (Whole (now known) × (Whole (now forms) × (Whole (now learners) × (Whole (now tops) × Whole (now signers)))))) ⌝ }
+    requires { ⌜ (a < 8) × ((n ≤ 128) × (Whole (now known) × (Whole (now forms) × (Whole (now learners) × (Whole (now tops) × (Whole (now signers)
+        × Covers n (isVoter (now known) (now forms) (now learners) (now tops) a x) (walk .low) (walk .high))))))) ⌝ }
     ensures { λ r. ⌜ ((p : ℕ) → p < 32 → has r p ≡ votersFor (now (known .entry)) (now (forms .entry)) (now (learners .entry)) (now (tops .entry)) (now (signers .entry)) n a x p) ⌝ }
 {
     let mut mask: Mask = 0;
-    let mut j: usize = 0;
+    let mut j: usize = next_in(walk.low, walk.high, 0, n);
     while j < n {
         let on = is_voter(known, forms, learners, tops, a, x, j);
         mask = with_acceptor(mask, signers[j], on);
-        j += 1;
+        j = next_in(walk.low, walk.high, j + 1, n);
     }
     mask
 }
@@ -68,15 +74,18 @@ fn is_decided<'a>(
     learners: &'a [u8],
     tops: &'a [u64],
     signers: &'a [u8],
+    keylow: &'a [u64],
+    keyhigh: &'a [u64],
     acceptors: u8,
     n: usize,
     a: usize,
     x: u64,
 ) -> bool
-    requires { ⌜ (acceptors ≤ 32) × (Sized (now lists) (now masks) × ((a < 8) × ((n ≤ 128) × (Whole (now known) × (Whole (now forms) × (Whole (now learners) × (Whole (now tops) × Whole (now signers)))))))) ⌝ }
+    requires { ⌜ (acceptors ≤ 32) × (Sized (now lists) (now masks) × ((a < 8) × ((n ≤ 128) × (Whole (now known) × (Whole (now forms) × (Whole (now learners) × (Whole (now tops) × (Whole (now signers) × Voting n (now tops) (now forms) (now keylow) (now keyhigh))))))))) ⌝ }
     ensures { λ r. ⌜ ((m : ℕ) → r ≡ isQuorum (heldGraph acceptors m (now (lists .entry)) (now (masks .entry))) a (votersFor (now (known .entry)) (now (forms .entry)) (now (learners .entry)) (now (tops .entry)) (now (signers .entry)) n a x)) ⌝ }
 {
-    let set = voters(known, forms, learners, tops, signers, n, a, x);
+    let walk = votes_of(keylow, keyhigh, x);
+    let set = voters(known, forms, learners, tops, signers, n, a, x, walk);
     is_quorum(lists, masks, acceptors, a, set)
 }
 
@@ -97,7 +106,7 @@ fn is_lower<'a>(
     (known[j] != 0) & (forms[j] == 2) & (!other | (value(x) != v)) & (!p.found | (x < p.ballot))
 }
 
-// The least so far, or the ballot of place j where that one decides and is lower. The quorum is asked last: it takes a walk over all places.
+// The least so far, or the ballot of place j where that one decides and is lower. The quorum is asked last: it takes a walk over the votes.
 fn lower<'a>(
     lists: &'a [u8],
     masks: &'a [Mask],
@@ -106,6 +115,8 @@ fn lower<'a>(
     learners: &'a [u8],
     tops: &'a [u64],
     signers: &'a [u8],
+    keylow: &'a [u64],
+    keyhigh: &'a [u64],
     acceptors: u8,
     n: usize,
     a: usize,
@@ -114,7 +125,7 @@ fn lower<'a>(
     p: Least,
     j: usize,
 ) -> Least
-    requires { ⌜ (j < 128) × ((acceptors ≤ 32) × (Sized (now lists) (now masks) × ((a < 8) × ((n ≤ 128) × (Whole (now known) × (Whole (now forms) × (Whole (now learners) × (Whole (now tops) × Whole (now signers))))))))) ⌝ }
+    requires { ⌜ (j < 128) × ((acceptors ≤ 32) × (Sized (now lists) (now masks) × ((a < 8) × ((n ≤ 128) × (Whole (now known) × (Whole (now forms) × (Whole (now learners) × (Whole (now tops) × (Whole (now signers) × Voting n (now tops) (now forms) (now keylow) (now keyhigh)))))))))) ⌝ }
     ensures { λ r. ⌜ ((m : ℕ) → r ≡ lowered p (isDeciding (heldGraph acceptors m (now (lists .entry)) (now (masks .entry))) (now (known .entry)) (now (forms .entry)) (now (learners .entry)) (now (tops .entry)) (now (signers .entry)) n a other v j) (getD (now (tops .entry)) j 0)) ⌝ }
 {
     if !is_lower(known, forms, tops, p, other, v, j) {
@@ -129,6 +140,8 @@ fn lower<'a>(
         learners,
         tops,
         signers,
+        keylow,
+        keyhigh,
         acceptors,
         n,
         a,
@@ -151,20 +164,24 @@ fn least_deciding<'a>(
     learners: &'a [u8],
     tops: &'a [u64],
     signers: &'a [u8],
+    keylow: &'a [u64],
+    keyhigh: &'a [u64],
     acceptors: u8,
     n: usize,
     a: usize,
     other: bool,
     v: u64,
 ) -> Least
-    requires { ⌜ (acceptors ≤ 32) × (Sized (now lists) (now masks) × ((a < 8) × ((n ≤ 128) × (Whole (now known) × (Whole (now forms) × (Whole (now learners) × (Whole (now tops) × Whole (now signers)))))))) ⌝ }
+    requires { ⌜ (acceptors ≤ 32) × (Sized (now lists) (now masks) × ((a < 8) × ((n ≤ 128) × (Whole (now known) × (Whole (now forms) × (Whole (now learners) × (Whole (now tops) × (Whole (now signers) × Voting n (now tops) (now forms) (now keylow) (now keyhigh))))))))) ⌝ }
     ensures { λ r. ⌜ ((m : ℕ) → r ≡ leastOf (isDeciding (heldGraph acceptors m (now (lists .entry)) (now (masks .entry))) (now (known .entry)) (now (forms .entry)) (now (learners .entry)) (now (tops .entry)) (now (signers .entry)) n a other v) (λ j. getD (now (tops .entry)) j 0) n) ⌝ }
 {
     let mut least = Least {
         found: false,
         ballot: 0,
     };
-    let mut j: usize = 0;
+    let low = keylow[SECONDS];
+    let high = keyhigh[SECONDS];
+    let mut j: usize = next_in(low, high, 0, n);
     while j < n {
         least = lower(
             lists,
@@ -174,6 +191,8 @@ fn least_deciding<'a>(
             learners,
             tops,
             signers,
+            keylow,
+            keyhigh,
             acceptors,
             n,
             a,
@@ -182,7 +201,7 @@ fn least_deciding<'a>(
             least,
             j,
         );
-        j += 1;
+        j = next_in(low, high, j + 1, n);
     }
     least
 }
@@ -202,12 +221,14 @@ pub fn report_for<'a>(
     learners: &'a [u8],
     fresh: &'a [u8],
     forms: &'a [u8],
+    keylow: &'a [u64],
+    keyhigh: &'a [u64],
     acceptors: u8,
     l: usize,
     n: usize,
     a: usize,
 ) -> Verdict
-    requires { ⌜ (a < l) × ((l ≤ 8) × ((acceptors ≤ 32) × (Sized (now lists) (now masks) × ((n ≤ 128) × (Whole (now known) × (Whole (now forms) × (Whole (now learners) × (Whole (now tops) × Whole (now signers))))))))) ⌝ }
+    requires { ⌜ (a < l) × ((l ≤ 8) × ((acceptors ≤ 32) × (Sized (now lists) (now masks) × ((n ≤ 128) × (Whole (now known) × (Whole (now forms) × (Whole (now learners) × (Whole (now tops) × (Whole (now signers) × Voting n (now tops) (now forms) (now keylow) (now keyhigh)))))))))) ⌝ }
     ensures { λ r. ⌜ ((t : Table) → length t ≡ n
         → Known (heldGraph acceptors l (now (lists .entry)) (now (masks .entry))) t (now (kinds .entry)) (now (signers .entry)) (now (low .entry)) (now (high .entry)) (now (forklow .entry)) (now (forkhigh .entry)) (now (tops .entry)) (now (learners .entry)) (now (fresh .entry)) (now (forms .entry))
         → r ≡ shown (reportAt t (heldGraph acceptors l (now (lists .entry)) (now (masks .entry))) (filter (isKnownIn (now (known .entry))) (below n)) a)) ⌝ }
@@ -220,6 +241,8 @@ pub fn report_for<'a>(
         learners,
         tops,
         signers,
+        keylow,
+        keyhigh,
         acceptors,
         n,
         a,
@@ -237,6 +260,8 @@ pub fn report_for<'a>(
         learners,
         tops,
         signers,
+        keylow,
+        keyhigh,
         acceptors,
         n,
         a,

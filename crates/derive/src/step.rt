@@ -1,5 +1,7 @@
 // One message worked out from the notes of the places before it, whether it is held, just delivered, or a reply that is being formed.
 use crate::Worked;
+use crate::index::walks_for;
+use base::value;
 use graph::Mask;
 use scan::Places;
 use scan::beneath::under;
@@ -8,23 +10,18 @@ use scan::forks::forking;
 use scan::learners::fresh_for;
 use scan::learners::learners_for;
 use scan::learners::opposing;
-use scan::learners::value;
 use scan::sets::meet;
 use scan::sets::with_acceptor;
 ghost use mathlib.Core.Path.{_≡_};
-ghost use mathlib.Core.Bool.{_&&_};
 ghost use mathlib.Core.Option.{Option};
 ghost use mathlib.Core.List.{[], _∷_, _++_};
-ghost use Prim.Native.Nat.{ℕ, _≤_, _<_};
-ghost use lib.Dec.{eqb};
-ghost use lib.ListN.{length, getD};
-ghost use Rattle.base.specs.Tests.{pick, any, below};
-ghost use Rattle.base.specs.Sets.{has};
+ghost use Prim.Native.Nat.{_≤_};
+ghost use lib.ListN.{length};
+ghost use Rattle.base.specs.Tests.{pick};
 ghost use Rattle.graph.specs.Held.{heldGraph};
 ghost use Rattle.protocol.specs.Ids.{Id};
 ghost use Rattle.protocol.specs.Table.{Table, says};
-ghost use Rattle.scan.specs.Arrays.{Whole, isCaught};
-ghost use Rattle.derive.specs.Notes.{Known, Candidate, Told, Marked, Ready};
+ghost use Rattle.derive.specs.Notes.{Known, Candidate, Told, Marks, Ready};
 
 // So many, where `on`.
 fn count_if(on: bool, l: usize) -> usize
@@ -38,27 +35,6 @@ fn form_of(offered: bool) -> u8
     ensures { λ r. ⌜ r ≡ pick offered 1 2 ⌝ }
 {
     if offered { 1 } else { 2 }
-}
-
-// The acceptors that are caught by two places of the set. `forked` has each place that forks with one before it. Forks are rare: where none of
-// those is in the set, the walk over all places is left out.
-fn caught_within<'a>(
-    signers: &'a [u8],
-    fork_low: &'a [u64],
-    fork_high: &'a [u64],
-    n: usize,
-    low: u64,
-    high: u64,
-    forked: Places,
-) -> u32
-    requires { ⌜ (n ≤ 128) × (Whole (now signers) × (Whole (now «fork_low») × (Whole (now «fork_high») × Marked n (now «fork_low») (now «fork_high») (forked .low) (forked .high)))) ⌝ }
-    ensures { λ r. ⌜ ((p : ℕ) → p < 32 → has r p
-        ≡ any (λ j. isCaught (now («fork_low» .entry)) (now («fork_high» .entry)) low high j && eqb (getD (now (signers .entry)) j 0) p) (below n)) ⌝ }
-{
-    if !meet(low, high, forked.low, forked.high) {
-        return 0;
-    }
-    caught_in(signers, fork_low, fork_high, n, low, high)
 }
 
 // Its own place is left out of those that it reaches: a new message has none.
@@ -77,6 +53,8 @@ pub fn step<'a>(
     learners: &'a [u8],
     fresh: &'a [u8],
     forms: &'a [u8],
+    key_low: &'a [u64],
+    key_high: &'a [u64],
     places: &'a [u8],
     acceptors: u8,
     l: usize,
@@ -86,7 +64,7 @@ pub fn step<'a>(
     link: u8,
     forked: Places,
 ) -> Worked
-    requires { ⌜ Ready acceptors l n (now counts) (now masks) (now kinds) (now signers) (now names) (now previous) (now low) (now high) (now «fork_low») (now «fork_high») (now tops) (now learners) (now fresh) (now forms) (now places) × Marked n (now «fork_low») (now «fork_high») (forked .low) (forked .high) ⌝ }
+    requires { ⌜ Ready acceptors l n (now counts) (now masks) (now kinds) (now signers) (now names) (now previous) (now low) (now high) (now «fork_low») (now «fork_high») (now tops) (now learners) (now fresh) (now forms) (now places) × Marks n (now kinds) (now signers) (now names) (now previous) (now «fork_low») (now «fork_high») (now tops) (now forms) (now «key_low») (now «key_high») (forked .low) (forked .high) ⌝ }
     ensures { λ r. ⌜ ((t : Table) (id : Id) (prev : Option Id) → length t ≡ n
         → Known (heldGraph acceptors l (now (counts .entry)) (now (masks .entry))) t (now (kinds .entry)) (now (signers .entry)) (now (low .entry)) (now (high .entry))
         (now («fork_low» .entry)) (now («fork_high» .entry)) (now (tops .entry)) (now (learners .entry)) (now (fresh .entry)) (now (forms .entry))
@@ -94,10 +72,34 @@ pub fn step<'a>(
         → Told (heldGraph acceptors l (now (counts .entry)) (now (masks .entry))) (t ++ says id signer prev (now (places .entry)) ∷ []) n r) ⌝ }
 {
     let u = under(low, high, tops, kinds, places);
-    let forks = forking(kinds, signers, names, previous, n, signer, name, link);
-    let others = caught_within(signers, fork_low, fork_high, n, u.low, u.high, forked);
+    let walks = walks_for(
+        key_low,
+        key_high,
+        forked,
+        u.low,
+        u.high,
+        u.ballot,
+        signer,
+        link,
+    );
+    let asked = walks.forks;
+    let forks = forking(
+        kinds,
+        signers,
+        names,
+        previous,
+        n,
+        signer,
+        name,
+        link,
+        asked,
+    );
+    let suspects = walks.caught;
+    let others = caught_in(signers, fork_low, fork_high, n, u.low, u.high, suspects);
     let caught = with_acceptor(others, signer, meet(u.low, u.high, forks.low, forks.high));
     let firsts = count_if(u.offered, l);
+    let votes = walks.votes;
+    let rival_votes = walks.rivals;
     let against = opposing(
         forms,
         learners,
@@ -109,9 +111,12 @@ pub fn step<'a>(
         u.high,
         signer,
         value(u.ballot),
+        votes,
+        rival_votes,
     );
     let free = fresh_for(counts, masks, acceptors, l, firsts, caught, against);
     let seconds = count_if(!u.offered, l);
+    let backers = walks.backers;
     let learned = learners_for(
         counts,
         masks,
@@ -125,6 +130,7 @@ pub fn step<'a>(
         u.low,
         u.high,
         u.ballot,
+        backers,
     );
     let beneath = Places {
         low: u.low,

@@ -1,5 +1,5 @@
 -- The order of a delivery's checks: row 17, then what the bytes say.
-use mathlib.Core.Path.{_≡_, sym, subst}
+use mathlib.Core.Path.{_≡_, ap, sym, subst}
 use mathlib.Core.Bool.{Bool, true, false, not, _||_}
 use mathlib.Core.List.{List}
 use Prim.Native.Nat.{ℕ, _≤_, _<_}
@@ -17,7 +17,7 @@ use Rattle.round.specs.declared.Round.{Round}
 use Rattle.round.specs.declared.Delivered.{Delivered}
 use Rattle.round.specs.Limits.{replyLen}
 use Rattle.round.specs.Handed.{fits}
-use Rattle.round.specs.Delivery.{taken, delivery, refused}
+use Rattle.round.specs.Delivery.{taken, delivery, delivered, replied, refused}
 use Rattle.engine.specs.Giving.{Gives, refusal}
 use Rattle.engine.proofs.Replying.{front-none}
 
@@ -47,3 +47,8 @@ module _ (H : List ℕ → Id) (r : Round) (b buffer : List ℕ) (x : Delivered)
   -- bytes that are no message
   pub unread : (e : Refusal) → x ≡ refusal r e → Gives (taken H r b (Refused e)) x buffer buffer
   unread e p = (p, front-none buffer)
+
+  -- what is told of it: the outcome, the next round and the reply
+  pub told : (after : List ℕ) → Gives (delivery H r b buffer) x buffer after
+      → (x .outcome ≡ delivered H r b buffer .outcome) × ((x .round ≡ delivered H r b buffer .round) × (after ≡ replied H r b buffer))
+  told after g = (ap (λ (y : Delivered). y .outcome) (g .0), (ap (λ (y : Delivered). y .round) (g .0), g .1))

@@ -1,5 +1,5 @@
 -- A message that enters: the round that holds it passes row 17 and has room for a reply.
-use mathlib.Core.Path.{_≡_, refl, sym, subst}
+use mathlib.Core.Path.{_≡_, refl, ap, sym, subst, _∙_}
 use mathlib.Core.Bool.{not, _&&_}
 use mathlib.Core.Option.{Option, none, some}
 use mathlib.Core.List.{List}
@@ -31,18 +31,19 @@ module _ (r : Round) (i : Id) (buffer : List ℕ) (can : Enterable r i buffer) w
   held-room = room-left (votes r) (λ p. not (isKnown r p)) (placeOf r i) (r .held) (can .free)
 
   -- at the place where it awaited its return
-  pub back-answers : (p : ℕ) → placeOf r i ≡ some p → Answerable (returned r p) p buffer
-  back-answers p e =
-      record {
+  pub back-answers : (p : ℕ) → placeOf r i ≡ some p → (s : Round) → s ≡ returned r p → Answerable s p buffer
+  back-answers p e s q =
+      subst (λ (s : Round). Answerable s p buffer) (sym q)
+      (record {
         fit = fits-in (returned r p) (returned-fitting r (fits-out r (can .fit)) p);
         here = place-some r i p e .inside;
         room = λ v. held-room;
         long = can .long;
-      }
+      })
 
   -- behind the others
-  pub new-answers : Typed r → (h : Held) → Storable r h → placeOf r i ≡ none → Answerable (hold r h 1) (r .held) buffer
-  new-answers typed h s e =
+  grown-answers : Typed r → (h : Held) → Storable r h → placeOf r i ≡ none → Answerable (hold r h 1) (r .held) buffer
+  grown-answers typed h s e =
       let f = fits-out r (can .fit) in
       let held = hold-appends r typed f held-room h s 1 .held in
       let own = hold-same r typed f held-room h s 1 .own in
@@ -57,6 +58,20 @@ module _ (r : Round) (i : Id) (buffer : List ℕ) (can : Enterable r i buffer) w
             omega arith;
         long = can .long;
       }
+
+  pub new-answers : Typed r → (h : Held) → Storable r h → placeOf r i ≡ none → (s : Round) (n : ℕ) → s ≡ hold r h 1 → n ≡ r .held → Answerable s n buffer
+  new-answers typed h c e s n q m =
+      subst (λ (s : Round). Answerable s n buffer) (sym q) (subst (λ (k : ℕ). Answerable (hold r h 1) k buffer) (sym m) (grown-answers typed h c e))
+
+-- the masks of the graph stay
+module _ (r s : Round) where
+  pub back-masks : (p : ℕ) (masks : List ℕ) → s ≡ returned r p → masks ≡ r .graph .masks → masks ≡ s .graph .masks
+  back-masks p masks q e = e ∙ sym (ap (λ (t : Round). t .graph .masks) q)
+
+  pub new-masks : (h : Held) (masks : List ℕ) → s ≡ hold r h 1 → masks ≡ r .graph .masks → masks ≡ s .graph .masks
+  unfolding hold
+  new-masks (offers i p b) masks q e = e ∙ sym (ap (λ (t : Round). t .graph .masks) q)
+  new-masks (says i p o l) masks q e = e ∙ sym (ap (λ (t : Round). t .graph .masks) q)
 
 module _ (H : List ℕ → Id) (r s : Round) (i : Id) (h : Held) (p : ℕ) (x : Delivered) (before after : List ℕ) where
   pub enters-back : s ≡ returned r p → placeOf r i ≡ some p → Gives (processed H s p) x before after → Gives (entered H r h (placeOf r i)) x before after

@@ -2,7 +2,7 @@
 use mathlib.Core.Path.{_≡_, refl, ap, ap₂, sym, subst, _∙_}
 use mathlib.Core.Bool.{Bool, true, false, _&&_}
 use mathlib.Core.List.{List, [], _++_}
-use Prim.Native.Nat.{ℕ, _+_, _-_, _≤_, _<_}
+use Prim.Native.Nat.{ℕ, _+_, _-_, _≤_}
 use native.Mathlib.Omega.{arith}
 use lib.ListN.{length, take, drop, length-append}
 use lib.Seq.{take-at}
@@ -17,31 +17,25 @@ use Rattle.round.specs.Held.{graphOf}
 use Rattle.round.specs.Reply.{replyPlaces, replyBytes, isSent}
 use Rattle.round.specs.Delivery.{Result}
 use Rattle.round.proofs.Chosen.{chosen-out}
+use Rattle.roundbytes.specs.Layout.{roundLen, Kept}
 use Rattle.steps.specs.declared.reply.Reply.{Reply}
 use Rattle.steps.specs.Sender.{sender, filled, replyAs}
-use Rattle.engine.specs.Giving.{Gives}
+use Rattle.engine.specs.Giving.{Gives, Earlier, Formed}
 use Rattle.steps.proofs.Sender.{chosen-length, filled-front, filled-length, reply-places, reply-lent}
 
 abbrev pub lentBy : Round → ℕ → Round
 lentBy r n = sender (r .house) (r .bay) (r .own) (r .last) (r .ids) (r .recent) n
 
-pub record Formed (r : Round) (p : ℕ) (x : Reply) (after : List ℕ) : Type 0 where
-  pub front : take (x .len) after ≡ replyBytes r p
-  pub long : x .len ≡ length (replyBytes r p)
-  pub short : x .len ≤ length after
-  pub listed : take (x .count) (x .places) ≡ replyPlaces r p
-  pub most : x .count ≤ r .held
-  pub whole : r .held ≤ 128 → length (x .places) ≡ 128
-
-pub formed : (r : Round) (p n : ℕ) (x : Reply) (buffer after : List ℕ) → n ≡ r .held
-    → x ≡ replyAs (replyPlaces (lentBy r n) p) (replyBytes (lentBy r n) p) → after ≡ fronted (replyBytes (lentBy r n) p) buffer → Formed r p x after
-formed r p n x buffer after e f g =
-    let z : replyBytes (lentBy r n) p ≡ replyBytes r p = ap (λ (k : ℕ). replyBytes (lentBy r k) p) e ∙ sym (reply-lent r p) in
-    let l : replyPlaces (lentBy r n) p ≡ replyPlaces r p = ap (λ (k : ℕ). replyPlaces (lentBy r k) p) e ∙ reply-places (lentBy r (r .held)) p ∙ sym (reply-places r p) in
+-- a reply formed over what the round lends
+pub formed : (r : Round) (p : ℕ) (l : Round) (x : Reply) (buffer after : List ℕ) → l ≡ lentBy r (r .held)
+    → x ≡ replyAs (replyPlaces l p) (replyBytes l p) → after ≡ fronted (replyBytes l p) buffer → Formed r p x after
+formed r p l x buffer after e f g =
+    let z : replyBytes l p ≡ replyBytes r p = ap (λ (k : Round). replyBytes k p) e ∙ sym (reply-lent r p) in
+    let q : replyPlaces l p ≡ replyPlaces r p = ap (λ (k : Round). replyPlaces k p) e ∙ reply-places (lentBy r (r .held)) p ∙ sym (reply-places r p) in
     let a : after ≡ replyBytes r p ++ drop (length (replyBytes r p)) buffer = g ∙ ap (λ (y : List ℕ). fronted y buffer) z in
     let long : x .len ≡ length (replyBytes r p) = ap (λ (y : Reply). y .len) f ∙ ap length z in
-    let counted : x .count ≡ length (replyPlaces r p) = ap (λ (y : Reply). y .count) f ∙ ap length l in
-    let placed : x .places ≡ filled (replyPlaces r p) = ap (λ (y : Reply). y .places) f ∙ ap filled l in
+    let counted : x .count ≡ length (replyPlaces r p) = ap (λ (y : Reply). y .count) f ∙ ap length q in
+    let placed : x .places ≡ filled (replyPlaces r p) = ap (λ (y : Reply). y .places) f ∙ ap filled q in
     let size : length after ≡ length (replyBytes r p) + length (drop (length (replyBytes r p)) buffer) =
     ap length a ∙ length-append (replyBytes r p) (drop (length (replyBytes r p)) buffer) in
     let few = chosen-length r p (r .held) in
@@ -59,7 +53,7 @@ pub front-part : (n : ℕ) (l : List ℕ) → take (n - 0) (drop 0 l) ≡ take n
 front-part n l = let e : n - 0 ≡ n = omega arith in ap (λ (k : ℕ). take k l) e
 
 -- the places that a reply refers to are held
-pub refers-held : (r : Round) (p : ℕ) (l : List ℕ) → l ≡ replyPlaces r p → (j : ℕ) → j ∈ l → j < r .held
+pub refers-held : (r : Round) (p : ℕ) (l : List ℕ) → l ≡ replyPlaces r p → Earlier r l
 refers-held r p l e j m = chosen-out r p (r .held) j (subst (λ (y : List ℕ). j ∈ y) e m) .inside
 
 -- what is written to the front of the buffer
@@ -81,3 +75,10 @@ front-none b = refl
 pub sent-judged : (r : Round) (m : Message) (x : Note) → Judged (graphOf r) m x → (x .formed1b && x .formed2a) ≡ isSent r m
 unfolding isSent
 sent-judged r m x j = λ k. j .formed1 k && j .formed2 k
+
+-- ---- bytes that are written one step after the other
+pub kept-on : (a b c : List ℕ) → Kept a b → Kept b c → Kept a c
+kept-on a b c x y = (y .0 ∙ x .0, y .1 ∙ x .1)
+
+pub kept-long : (a b : List ℕ) → Kept a b → roundLen ≤ length a → roundLen ≤ length b
+kept-long a b k h = let e = k .0 in omega arith

@@ -60,6 +60,10 @@ module _ (b : List ℕ) (m : AcceptorMessage) (reads : reading b ≡ OfAcceptor 
         named′ = previous-named r (f .most) (previousId b m) p;
       }
 
+-- at most as many as there are places
+pub fewer : (k n : ℕ) (l : List ℕ) → k ≤ n → length l ≡ n → k ≤ length l
+fewer k n l h e = omega arith
+
 -- where none of rows 13 to 16 applies, there is room
 form-free : (a b c l : Bool) → formRow a b c l ≡ none → T (not l)
 form-free true true true false e = tt

@@ -1,5 +1,5 @@
 -- What the work-out pass asks of a round, and what it says of one.
-use mathlib.Core.Path.{_≡_, refl, sym, ap₂, subst}
+use mathlib.Core.Path.{_≡_, refl, sym, ap, subst, transport, transport⁻¹, _∙_}
 use mathlib.Core.Logic.{_⊎_, inl, inr}
 use mathlib.Core.Bool.{true, false, _&&_}
 use mathlib.Core.List.{List, [], _∷_, List·Memᴰ·head, List·Memᴰ·tail}
@@ -10,6 +10,7 @@ use lib.ListN.{length, getD}
 use borrow.Author.Tests.{le-leb, lt-leb}
 use Rattle.base.specs.Tests.{_∈_, all, filter, below}
 use Rattle.base.specs.declared.refusal.Refusal.the-variants.{Argument}
+use Rattle.base.proofs.Bytes.{part-length}
 use Rattle.base.proofs.Tests.{and-l, and-r, or-out, all-out}
 use Rattle.protocol.specs.Report as paper
 use Rattle.graph.specs.LearnerGraph.{LearnerGraph}
@@ -18,9 +19,9 @@ use Rattle.protocol.specs.Table.{Held, Table, nodeBy, tree}
 use Rattle.protocol.specs.Places.{reportAt}
 use Rattle.derive.specs.declared.Note.{Note}
 use Rattle.derive.specs.declared.Notes.{Notes}
-use Rattle.scan.specs.Arrays.{Named}
+use Rattle.scan.specs.Arrays.{Named, IdsIndexed}
 use Rattle.derive.specs.Deciding.{isKnownIn, shown}
-use Rattle.derive.specs.Notes.{Known, Judged}
+use Rattle.derive.specs.Notes.{Known, Judged, Marks}
 use Rattle.derive.specs.Records.{tableIn, Fit, Lengths}
 use Rattle.round.specs.declared.Round.{Round}
 use Rattle.round.specs.declared.Report.the-variants.{Refused}
@@ -29,6 +30,8 @@ use Rattle.round.specs.Handed.{listFits, graphFits, refersBack, fits}
 use Rattle.round.specs.Rows.{messageOf}
 use Rattle.round.specs.Report.{told, reported}
 use Rattle.round.proofs.Fitting.{Fitting, place-cases}
+use Rattle.roundbytes.specs.Layout.{roundLen, roundIn}
+use Rattle.roundbytes.proofs.Typing.{numbers-length}
 use Rattle.engine.specs.Telling.{answerTo}
 
 module _ (r : Round) where
@@ -83,53 +86,102 @@ module _ (r : Round) where
     pub previous : length (r .previous) ≡ 128
     pub counts : length (r .counts) ≡ 128
     pub references : length (r .references) ≡ 16384
+    pub known : length (r .known) ≡ 128
+    pub recent : length (r .recent) ≡ 128
 
-  -- what the pass asks, where l is the number of learners and n that of held messages
-  pub work-asked : Fitting r → Sizes → (l n : ℕ) → l ≡ r .graph .learners → n ≡ r .held
-      → (r .graph .acceptors ≤ 32)
-      × ((l ≤ 8)
-      × (Sized (r .graph .counts) (r .graph .masks)
-      × (Fit n (r .kinds) (r .previous) (r .counts) (r .references)
-      × Lengths (r .ids) (r .kinds) (r .signers) (r .ballots) (r .previous) (r .counts) (r .references))))
-  work-asked f z l n e g =
-      let a = acceptors-fit f in
-      let b = learners-fit f in (
-        omega arith,
-        (
+  abbrev pub tableTo : ℕ → List ℕ → Table
+  tableTo n b = tableIn (r .ids) (r .kinds) (r .signers) b (r .previous) (r .counts) (r .references) n
+
+  abbrev pub graphTo : ℕ → List ℕ → LearnerGraph
+  graphTo l m = heldGraph (r .graph .acceptors) l (r .graph .counts) m
+
+  -- the notes of l learners and n places, from the masks m and the ballots b
+  abbrev pub NotesTo : ℕ → ℕ → List ℕ → List ℕ → Notes → Type 0
+  NotesTo l n m b x =
+      Named (r .ids) n (x .names)
+      × Known (graphTo l m) (tableTo n b) (r .kinds) (r .signers) (x .low) (x .high) (x .forklow) (x .forkhigh) (x .tops) (x .learners) (x .fresh) (x .forms)
+
+  -- the indexes of n places
+  abbrev pub IndexesTo : ℕ → Notes → Type 0
+  IndexesTo n x =
+      IdsIndexed (r .ids) n (x .idlow) (x .idhigh)
+      × Marks n (r .kinds) (r .signers) (x .names) (r .previous) (x .forklow) (x .forkhigh) (x .tops) (x .forms) (x .keylow) (x .keyhigh) (x .forked .low) (x .forked .high)
+
+  -- l learners, n held messages, masks m and ballots b that were read: they are the round's
+  module _ (l n : ℕ) (m b : List ℕ) (e : l ≡ r .graph .learners) (g : n ≡ r .held) (p : m ≡ r .graph .masks) (q : b ≡ r .ballots) where
+    -- what the pass asks
+    pub work-asked : Fitting r → Sizes
+        → (r .graph .acceptors ≤ 32)
+        × ((l ≤ 8)
+        × (Sized (r .graph .counts) m
+        × (Fit n (r .kinds) (r .previous) (r .counts) (r .references)
+        × Lengths (r .ids) (r .kinds) (r .signers) b (r .previous) (r .counts) (r .references))))
+    work-asked f z =
+        let a = acceptors-fit f in
+        let d = learners-fit f in (
           omega arith,
           (
-            (z .lists, z .masks),
+            omega arith,
             (
-              subst (λ (k : ℕ). Fit k (r .kinds) (r .previous) (r .counts) (r .references)) (sym g) (fit-lent f),
-              record { idsFit = z .ids; kindsFit = z .kinds; signersFit = z .signers; ballotsFit = z .ballots; previousFit = z .previous; countsFit = z .counts; referencesFit = z .references },
+              (z .lists, ap length p ∙ z .masks),
+              (
+                subst (λ (k : ℕ). Fit k (r .kinds) (r .previous) (r .counts) (r .references)) (sym g) (fit-lent f),
+                record { idsFit = z .ids; kindsFit = z .kinds; signersFit = z .signers; ballotsFit = ap length q ∙ z .ballots; previousFit = z .previous; countsFit = z .counts; referencesFit = z .references },
+              ),
             ),
           ),
-        ),
-      )
+        )
 
-  abbrev pub tableTo : ℕ → Table
-  tableTo n = tableIn (r .ids) (r .kinds) (r .signers) (r .ballots) (r .previous) (r .counts) (r .references) n
+    -- the notes are those of the round, and the other way
+    same : (x : Notes) → NotesTo l n m b x ≡ NotesTo (r .graph .learners) (r .held) (r .graph .masks) (r .ballots) x
+    same x = λ i. NotesTo (e i) (g i) (p i) (q i) x
 
-  abbrev pub graphTo : ℕ → LearnerGraph
-  graphTo l = heldGraph (r .graph .acceptors) l (r .graph .counts) (r .graph .masks)
+    pub notes-read : (x : Notes) → NotesTo l n m b x → NotesTo (r .graph .learners) (r .held) (r .graph .masks) (r .ballots) x
+    notes-read x h = transport (same x) h
 
-  -- the notes of l learners and n places, and those of as many
-  abbrev pub NotesTo : ℕ → ℕ → Notes → Type 0
-  NotesTo l n x =
-      Named (r .ids) n (x .names)
-      × Known (graphTo l) (tableTo n) (r .kinds) (r .signers) (x .low) (x .high) (x .forklow) (x .forkhigh) (x .tops) (x .learners) (x .fresh) (x .forms)
+    pub notes-lent : (x : Notes) → NotesTo (r .graph .learners) (r .held) (r .graph .masks) (r .ballots) x → NotesTo l n m b x
+    notes-lent x h = transport⁻¹ (same x) h
 
-  pub notes-lent : (l l′ n n′ : ℕ) (x : Notes) → l ≡ l′ → n ≡ n′ → NotesTo l n x → NotesTo l′ n′ x
-  notes-lent l l′ n n′ x e g h = subst (λ (k : ℕ). NotesTo k n′ x) e (subst (λ (k : ℕ). NotesTo l k x) g h)
+    pub indexes-read : (x : Notes) → IndexesTo n x → IndexesTo (r .held) x
+    indexes-read x h = subst (λ k. IndexesTo k x) g h
 
-  -- what the pass says is said of the round
-  pub reported-lent : (l n a : ℕ) → l ≡ r .graph .learners → n ≡ r .held
-      → reportAt (tableTo n) (graphTo l) (filter (isKnownIn (r .known)) (below n)) a ≡ paper.report (graphOf r) (knownMessages r) a
-  reported-lent l n a e g = ap₂ (λ (x y : ℕ). reportAt (tableTo y) (graphTo x) (filter (isKnownIn (r .known)) (below y)) a) e g
+    pub indexes-lent : (x : Notes) → IndexesTo (r .held) x → IndexesTo n x
+    indexes-lent x h = subst (λ k. IndexesTo k x) (sym g) h
 
-  pub judged-lent : (l n : ℕ) → l ≡ r .graph .learners → n ≡ r .held → (h : Held) (x : Note) → Judged (graphTo l) (nodeBy (tree (tableTo n)) h) x → Judged (graphOf r) (messageOf r h) x
-  judged-lent l n e g h x j =
-      subst (λ (k : ℕ). Judged (graphTo k) (messageOf r h) x) e (subst (λ (k : ℕ). Judged (graphTo l) (nodeBy (tree (tableTo k)) h) x) g j)
+    -- what the pass says is said of the round
+    pub reported-lent : (a : ℕ)
+        → reportAt (tableTo n b) (graphTo l m) (filter (isKnownIn (r .known)) (below n)) a ≡ paper.report (graphOf r) (knownMessages r) a
+    reported-lent a = λ i. reportAt (tableTo (g i) (q i)) (graphTo (e i) (p i)) (filter (isKnownIn (r .known)) (below (g i))) a
+
+    pub judged-lent : (h : Held) (x : Note) → Judged (graphTo l m) (nodeBy (tree (tableTo n b)) h) x → Judged (graphOf r) (messageOf r h) x
+    judged-lent h x j =
+        let same : Judged (graphTo l m) (nodeBy (tree (tableTo n b)) h) x ≡ Judged (graphOf r) (messageOf r h) x = λ i. Judged (graphTo (e i) (p i)) (nodeBy (tree (tableTo (g i) (q i))) h) x in
+        transport same j
+
+-- a round in bytes has them
+pub sizes-in : (s : List ℕ) → roundLen ≤ length s → Sizes (roundIn s)
+sizes-in s h =
+    record {
+      lists = part-length 44 s 2 (omega arith);
+      masks = numbers-length 4 352 s 46;
+      ids = part-length 4096 s 1462 (omega arith);
+      kinds = part-length 128 s 5558 (omega arith);
+      signers = part-length 128 s 5686 (omega arith);
+      ballots = numbers-length 8 128 s 5814;
+      previous = part-length 128 s 6838 (omega arith);
+      counts = part-length 128 s 6966 (omega arith);
+      references = part-length 16384 s 7094 (omega arith);
+      known = part-length 128 s 23478 (omega arith);
+      recent = part-length 128 s 23606 (omega arith);
+    }
+
+-- a place in the round's bytes stands in the buffer
+pub within : (s : List ℕ) (k : ℕ) → roundLen ≤ length s → k ≤ roundLen → k ≤ length s
+within s k h l = omega arith
+
+-- as many as were read are at most as many
+pub read-most : (n h k : ℕ) → n ≡ h → h ≤ k → n ≤ k
+read-most n h k e l = omega arith
 
 -- places that are held are below 128
 pub places-below : (l : List ℕ) (n : ℕ) → n ≤ 128 → ((j : ℕ) → j ∈ l → j < n) → (i : ℕ) → getD l i 0 < 128

@@ -5,23 +5,31 @@ use mathlib.Core.Option.{Option}
 use mathlib.Core.List.{List}
 use Prim.Native.Nat.{ℕ, _≤_, _<_}
 use lib.Dec.{T}
-use lib.ListN.{length}
+use lib.ListN.{length, take}
 use Rattle.base.specs.Tests.{_∈_}
 use Rattle.base.specs.declared.refusal.Refusal.{Refusal}
 use Rattle.message.specs.Writer.{fronted}
 use Rattle.protocol.specs.Ids.{Id}
 use Rattle.round.specs.declared.Round.{Round}
 use Rattle.round.specs.declared.Delivered.{Delivered}
+use Rattle.round.specs.declared.Outcome.{Outcome}
 use Rattle.round.specs.declared.Outcome.the-variants.{Accepted, Replied, Refused}
 use Rattle.round.specs.Limits.{maxHeld, listening, replyLen}
 use Rattle.round.specs.Held.{named}
 use Rattle.round.specs.Handed.{placeFits, fits}
 use Rattle.round.specs.Rows.{full}
+use Rattle.round.specs.Reply.{replyPlaces, replyBytes}
 use Rattle.round.specs.Delivery.{Result, previousPlace}
+use Rattle.roundbytes.specs.Layout.{roundIn}
+use Rattle.steps.specs.declared.reply.Reply.{Reply}
 
 -- the answer and the buffer afterwards are those of a result
 abbrev pub Gives : Result → Delivered → List ℕ → List ℕ → Type 0
 Gives d r before after = (r ≡ record { outcome = d .outcome; round = d .round }) × (after ≡ fronted (d .reply) before)
+
+-- an answer, and the round that the bytes have then
+abbrev pub left : Outcome → List ℕ → Delivered
+left o s = record { outcome = o; round = roundIn s }
 
 -- accepted with no reply, and with one of n bytes
 abbrev pub accepts : Round → Delivered
@@ -41,6 +49,19 @@ pub record Answerable (r : Round) (p : ℕ) (buffer : List ℕ) : Type 0 where
   pub room : r .own < listening → r .held < maxHeld
   pub long : replyLen ≤ length buffer
 
+-- places of held messages
+abbrev pub Earlier : Round → List ℕ → Type 0
+Earlier r places = (j : ℕ) → j ∈ places → j < r .held
+
+-- a reply to the message at place p that was formed in the front of a buffer
+pub record Formed (r : Round) (p : ℕ) (z : Reply) (buffer : List ℕ) : Type 0 where
+  pub front : take (z .len) buffer ≡ replyBytes r p
+  pub long : z .len ≡ length (replyBytes r p)
+  pub short : z .len ≤ length buffer
+  pub listed : take (z .count) (z .places) ≡ replyPlaces r p
+  pub most : z .count ≤ r .held
+  pub whole : r .held ≤ maxHeld → length (z .places) ≡ maxHeld
+
 -- of one that sends a reply, which refers to the first `count` of some places
 pub record Sendable (r : Round) (places : List ℕ) (count : ℕ) : Type 0 where
   pub fit : T (fits r)
@@ -59,6 +80,6 @@ pub record Enterable (r : Round) (i : Id) (buffer : List ℕ) : Type 0 where
 pub record Referring (r : Round) (previous : Option Id) (places : List ℕ) : Type 0 where
   pub least : 1 ≤ length places
   pub most : length places ≤ maxHeld
-  pub earlier : (j : ℕ) → j ∈ places → j < r .held
+  pub earlier : Earlier r places
   pub placed : T (placeFits r (previousPlace r previous))
   pub named′ : named r (previousPlace r previous) ≡ previous

@@ -1,92 +1,124 @@
-// After acceptance: the reply to a message that the round holds, sent or not.
+// After acceptance: the reply to a message that the round holds, sent or not. The round stands in the bytes s.
 use crate::judge::judge;
 use base::put_all;
 use base::size;
 use digest::sha256;
-use round::Delivered;
+use graph::Mask;
 use round::Outcome;
-use round::Round;
+use roundbytes::BAY_AT;
+use roundbytes::HELD_AT;
+use roundbytes::HOUSE_AT;
+use roundbytes::IDS_AT;
+use roundbytes::KINDS_AT;
+use roundbytes::LAST_AT;
+use roundbytes::OWN_AT;
+use roundbytes::RECENT_AT;
+use roundbytes::ROUND_LEN;
+use roundbytes::word16;
 use steps::hold::hold_vote;
 use steps::hold::joined;
 use steps::hold::sent;
 use steps::lookup::named_place;
+use steps::reply::Reply;
 use steps::reply::form_reply;
 ghost use mathlib.Core.Path.{_≡_};
-ghost use Prim.Native.Nat.{_<_};
-ghost use lib.ListN.{take, set, replicate};
+ghost use Prim.Native.Nat.{_≤_, _<_};
+ghost use lib.ListN.{length, take, set, replicate};
 ghost use Rattle.digest.specs.Sha256.{sha256};
 ghost use Rattle.protocol.specs.Table.{says};
 ghost use Rattle.round.specs.Held.{named};
-ghost use Rattle.round.specs.Reply.{replyBytes};
+ghost use Rattle.round.specs.Rows.{messageOf};
+ghost use Rattle.round.specs.Reply.{replyBytes, isSent};
 ghost use Rattle.round.specs.Delivery.{hold, withRecent, recentWith, answered, processed};
-ghost use Rattle.engine.specs.Giving.{Gives, accepts, replies, Sendable, Answerable};
+ghost use Rattle.roundbytes.specs.Layout.{roundLen, roundIn, Kept};
+ghost use Rattle.engine.specs.Giving.{Gives, left, accepts, replies, Earlier, Formed, Sendable, Answerable};
 
 // Nothing is sent: the message at place p joins recent, unless it is a proposal.
-fn join(round: Round, p: usize) -> Delivered
-    requires { ⌜ p < 128 ⌝ }
-    ensures { λ r. ⌜ r ≡ accepts (withRecent round (round .last) (recentWith round p)) ⌝ }
+fn join(s: &mut [u8], p: usize) -> Outcome
+    requires { ⌜ (roundLen ≤ length (now s)) × (p < 128) ⌝ }
+    ensures given { λ o. ⌜ left o (now (s .exit)) ≡ accepts (withRecent (roundIn (now (s .entry))) (roundIn (now (s .entry)) .last) (recentWith (roundIn (now (s .entry))) p)) ⌝ }
+    ensures kept { λ _. ⌜ Kept (now (s .entry)) (now (s .exit)) ⌝ }
 {
-    let next = joined(round, p);
-    Delivered {
-        outcome: Outcome::Accepted,
-        round: next,
-    }
+    joined(s, p);
+    Outcome::Accepted
 }
 
 // z is sent: held as awaiting its return, it is the last sent message, and recent is that one alone.
-fn send(round: Round, id: [u8; 32], places: &[u8], count: usize, len: usize) -> Delivered
-    requires { ⌜ Sendable round (now places) count ⌝ }
-    ensures { λ r. ⌜ r ≡ replies len (withRecent (hold round (says id (round .own) (named round (round .last)) (take count (now (places .entry)))) 0) (round .held) (set (replicate 128 0) (round .held) 1)) ⌝ }
+fn send<'a>(s: &mut [u8], id: &'a [u8], places: &'a [u8], count: usize, len: usize) -> Outcome
+    requires { ⌜ (roundLen ≤ length (now s)) × ((length (now id) ≡ 32) × Sendable (roundIn (now s)) (now places) count) ⌝ }
+    ensures given { λ o. ⌜ left o (now (s .exit)) ≡ replies len (withRecent (hold (roundIn (now (s .entry))) (says (now (id .entry)) (roundIn (now (s .entry)) .own) (named (roundIn (now (s .entry))) (roundIn (now (s .entry)) .last)) (take count (now (places .entry)))) 0) (roundIn (now (s .entry)) .held) (set (replicate 128 0) (roundIn (now (s .entry)) .held) 1)) ⌝ }
+    ensures kept { λ _. ⌜ Kept (now (s .entry)) (now (s .exit)) ⌝ }
 {
-    let place = size(round.held);
-    let previous = named_place(&round.ids, place, round.last);
-    let held = hold_vote(round, id, round.own as u8, previous, places, count, 0);
-    let next = sent(held, place);
-    Delivered {
-        outcome: Outcome::Replied(len),
-        round: next,
-    }
+    let place = size(s[HELD_AT]);
+    let own = word16(s, OWN_AT);
+    let last = s[LAST_AT];
+    let previous = named_place(&s[IDS_AT..KINDS_AT], place, last);
+    hold_vote(s, id, own as u8, previous, places, count, 0);
+    sent(s, place);
+    Outcome::Replied(len)
+}
+
+// z, the reply of an acceptor to the message at place p, formed in the front of a buffer.
+fn reply_to(s: &[u8], p: usize, buf: &mut [u8]) -> Reply
+    requires { ⌜ (roundLen ≤ length (now s)) × (Answerable (roundIn (now s)) p (now buf) × (roundIn (now s) .own < 256)) ⌝ }
+    ensures { λ z. ⌜ Formed (roundIn (now (s .entry))) p z (now (buf .exit)) ⌝ }
+{
+    let house = word16(s, HOUSE_AT);
+    let bay = word16(s, BAY_AT);
+    let own = word16(s, OWN_AT);
+    let last = s[LAST_AT];
+    let held = size(s[HELD_AT]);
+    form_reply(
+        house,
+        bay,
+        own,
+        last,
+        &s[IDS_AT..KINDS_AT],
+        &s[RECENT_AT..ROUND_LEN],
+        held,
+        p,
+        buf,
+    )
+}
+
+// Whether a reply with this id, which refers to the first `count` of some places, is well-formed.
+fn is_sent<'a>(s: &'a [u8], masks: &'a [Mask], id: &'a [u8], places: &'a [u8], count: usize) -> bool
+    requires { ⌜ (roundLen ≤ length (now s)) × ((now masks ≡ roundIn (now s) .graph .masks) × (Sendable (roundIn (now s)) (now places) count × Earlier (roundIn (now s)) (take count (now places)))) ⌝ }
+    ensures { λ b. ⌜ b ≡ isSent (roundIn (now (s .entry))) (messageOf (roundIn (now (s .entry))) (says (now (id .entry)) (roundIn (now (s .entry)) .own) (named (roundIn (now (s .entry))) (roundIn (now (s .entry)) .last)) (take count (now (places .entry))))) ⌝ }
+{
+    let own = word16(s, OWN_AT);
+    let last = s[LAST_AT];
+    let note = judge(s, masks, id, &places[0..count], own as u8, last);
+    note.formed1b & note.formed2a
 }
 
 // The reply of an acceptor to the message at place p is formed; it is sent where it is well-formed.
-fn answer(round: Round, p: usize, reply: &mut [u8]) -> Delivered
-    requires { ⌜ Answerable round p (now reply) × (round .own < 256) ⌝ }
-    ensures { λ r. ⌜ Gives (answered sha256 round p (replyBytes round p)) r (now (reply .entry)) (now (reply .exit)) ⌝ }
+fn answer(s: &mut [u8], masks: &[Mask], p: usize, reply: &mut [u8]) -> Outcome
+    requires { ⌜ (roundLen ≤ length (now s)) × ((now masks ≡ roundIn (now s) .graph .masks) × (Answerable (roundIn (now s)) p (now reply) × (roundIn (now s) .own < 256))) ⌝ }
+    ensures given { λ o. ⌜ Gives (answered sha256 (roundIn (now (s .entry))) p (replyBytes (roundIn (now (s .entry))) p)) (left o (now (s .exit))) (now (reply .entry)) (now (reply .exit)) ⌝ }
+    ensures kept { λ _. ⌜ Kept (now (s .entry)) (now (s .exit)) ⌝ }
 {
     let mut scratch = [0u8; 4139];
-    let z = form_reply(
-        round.house,
-        round.bay,
-        round.own,
-        round.last,
-        &round.ids,
-        &round.recent,
-        size(round.held),
-        p,
-        &mut scratch,
-    );
+    let z = reply_to(s, p, &mut scratch);
     let places = z.places;
     let count = z.count;
     let len = z.len;
     let id = sha256(&scratch[0..len]);
-    let note = judge(round, &id, &places[0..count], round.own as u8, round.last);
-    if !(note.formed1b & note.formed2a) {
-        return join(round, p);
+    if !is_sent(s, masks, &id, &places, count) {
+        return join(s, p);
     }
     put_all(reply, 0, &scratch[0..len]);
-    send(round, id, &places, count, len)
+    send(s, &id, &places, count, len)
 }
 
 // What follows on the message at place p: a round with no acceptor number sends nothing.
-pub fn process(round: Round, p: usize, reply: &mut [u8]) -> Delivered
-    requires { ⌜ Answerable round p (now reply) ⌝ }
-    ensures { λ r. ⌜ Gives (processed sha256 round p) r (now (reply .entry)) (now (reply .exit)) ⌝ }
+pub fn process(s: &mut [u8], masks: &[Mask], p: usize, reply: &mut [u8]) -> Outcome
+    requires { ⌜ (roundLen ≤ length (now s)) × ((now masks ≡ roundIn (now s) .graph .masks) × Answerable (roundIn (now s)) p (now reply)) ⌝ }
+    ensures given { λ o. ⌜ Gives (processed sha256 (roundIn (now (s .entry))) p) (left o (now (s .exit))) (now (reply .entry)) (now (reply .exit)) ⌝ }
+    ensures kept { λ _. ⌜ Kept (now (s .entry)) (now (s .exit)) ⌝ }
 {
-    if round.own < 256 {
-        return answer(round, p, reply);
+    if word16(s, OWN_AT) < 256 {
+        return answer(s, masks, p, reply);
     }
-    Delivered {
-        outcome: Outcome::Accepted,
-        round,
-    }
+    Outcome::Accepted
 }

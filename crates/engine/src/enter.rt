@@ -1,8 +1,12 @@
-// An accepted message becomes known: at the place where it awaited its return, or behind the others. Then it is answered.
+// An accepted message becomes known: at the place where it awaited its return, or behind the others. Then it is answered. The round stands in
+// the bytes s.
 use crate::answer::process;
 use base::size;
-use round::Delivered;
-use round::Round;
+use graph::Mask;
+use round::Outcome;
+use roundbytes::HELD_AT;
+use roundbytes::IDS_AT;
+use roundbytes::KINDS_AT;
 use steps::hold::hold_proposal;
 use steps::hold::hold_vote;
 use steps::hold::returned;
@@ -13,95 +17,99 @@ ghost use mathlib.Core.Path.{_≡_};
 ghost use mathlib.Core.Option.{none};
 ghost use Prim.Native.Nat.{_≤_};
 ghost use lib.ListN.{length, take};
-ghost use Rattle.base.specs.Bytes.{Octets};
 ghost use Rattle.digest.specs.Sha256.{sha256};
 ghost use Rattle.protocol.specs.Table.{offers, says};
 ghost use Rattle.round.specs.Held.{placeOf};
 ghost use Rattle.round.specs.Delivery.{entered};
-ghost use Rattle.round.specs.Demands.{Typed};
+ghost use Rattle.roundbytes.specs.Layout.{roundLen, roundIn, Kept};
 ghost use Rattle.steps.specs.Lent.{previousIn};
-ghost use Rattle.engine.specs.Giving.{Gives, Enterable, Referring};
-
-// A round and an id are as their types have them. Nothing is computed; the proofs lean on it.
-fn typed(round: Round, id: [u8; 32])
-    ensures { λ _. ⌜ Typed round × ((length id ≡ 32) × Octets id) ⌝ }
-{}
+ghost use Rattle.engine.specs.Giving.{Gives, left, Enterable, Referring};
 
 // A proposal that is not held goes behind the others.
-fn add_proposal(
-    round: Round,
-    id: [u8; 32],
+fn add_proposal<'a>(
+    s: &mut [u8],
+    masks: &'a [Mask],
+    id: &'a [u8],
     proposer: u8,
     ballot: u64,
     reply: &mut [u8],
-) -> Delivered
-    requires { ⌜ Enterable round id (now reply) × (placeOf round id ≡ none) ⌝ }
-    ensures { λ r. ⌜ Gives (entered sha256 round (offers id proposer ballot) (placeOf round id)) r (now (reply .entry)) (now (reply .exit)) ⌝ }
+) -> Outcome
+    requires { ⌜ (roundLen ≤ length (now s)) × ((now masks ≡ roundIn (now s) .graph .masks) × ((Enterable (roundIn (now s)) (now id) (now reply) × (placeOf (roundIn (now s)) (now id) ≡ none)) × (length (now id) ≡ 32))) ⌝ }
+    ensures given { λ o. ⌜ Gives (entered sha256 (roundIn (now (s .entry))) (offers (now (id .entry)) proposer ballot) (placeOf (roundIn (now (s .entry))) (now (id .entry)))) (left o (now (s .exit))) (now (reply .entry)) (now (reply .exit)) ⌝ }
+    ensures kept { λ _. ⌜ Kept (now (s .entry)) (now (s .exit)) ⌝ }
 {
-    typed(round, id);
-    let held = size(round.held);
-    process(hold_proposal(round, id, proposer, ballot), held, reply)
+    let held = size(s[HELD_AT]);
+    hold_proposal(s, id, proposer, ballot);
+    process(s, masks, held, reply)
 }
 
 // A proposal.
-pub fn enter_proposal(
-    round: Round,
-    id: [u8; 32],
+pub fn enter_proposal<'a>(
+    s: &mut [u8],
+    masks: &'a [Mask],
+    id: &'a [u8],
     proposer: u8,
     ballot: u64,
     reply: &mut [u8],
-) -> Delivered
-    requires { ⌜ Enterable round id (now reply) ⌝ }
-    ensures { λ r. ⌜ Gives (entered sha256 round (offers id proposer ballot) (placeOf round id)) r (now (reply .entry)) (now (reply .exit)) ⌝ }
+) -> Outcome
+    requires { ⌜ (roundLen ≤ length (now s)) × ((now masks ≡ roundIn (now s) .graph .masks) × (Enterable (roundIn (now s)) (now id) (now reply) × (length (now id) ≡ 32))) ⌝ }
+    ensures given { λ o. ⌜ Gives (entered sha256 (roundIn (now (s .entry))) (offers (now (id .entry)) proposer ballot) (placeOf (roundIn (now (s .entry))) (now (id .entry)))) (left o (now (s .exit))) (now (reply .entry)) (now (reply .exit)) ⌝ }
+    ensures kept { λ _. ⌜ Kept (now (s .entry)) (now (s .exit)) ⌝ }
 {
-    let held = size(round.held);
-    match place_of(&round.ids, held, &id) {
-        Found::At(p) => process(returned(round, p), p, reply),
-        Found::Nothing => add_proposal(round, id, proposer, ballot, reply),
+    let held = size(s[HELD_AT]);
+    match place_of(&s[IDS_AT..KINDS_AT], held, id) {
+        Found::At(p) => {
+            returned(s, p);
+            process(s, masks, p, reply)
+        }
+        Found::Nothing => add_proposal(s, masks, id, proposer, ballot, reply),
     }
 }
 
 // An acceptor message that is not held goes behind the others.
 fn add_vote<'a>(
-    round: Round,
-    id: [u8; 32],
+    s: &mut [u8],
+    masks: &'a [Mask],
+    id: &'a [u8],
     signer: u8,
     bytes: &'a [u8],
     previous: bool,
     places: &'a [u8],
     count: usize,
     reply: &mut [u8],
-) -> Delivered
-    requires { ⌜ (Enterable round id (now reply) × (placeOf round id ≡ none)) × ((42 ≤ length (now bytes)) × ((count ≤ length (now places)) × Referring round (previousIn (now bytes) previous) (take count (now places)))) ⌝ }
-    ensures { λ r. ⌜ Gives (entered sha256 round (says id signer (previousIn (now (bytes .entry)) previous) (take count (now (places .entry)))) (placeOf round id)) r (now (reply .entry)) (now (reply .exit)) ⌝ }
+) -> Outcome
+    requires { ⌜ (roundLen ≤ length (now s)) × ((now masks ≡ roundIn (now s) .graph .masks) × ((Enterable (roundIn (now s)) (now id) (now reply) × (placeOf (roundIn (now s)) (now id) ≡ none)) × ((length (now id) ≡ 32) × ((42 ≤ length (now bytes)) × ((count ≤ length (now places)) × Referring (roundIn (now s)) (previousIn (now bytes) previous) (take count (now places))))))) ⌝ }
+    ensures given { λ o. ⌜ Gives (entered sha256 (roundIn (now (s .entry))) (says (now (id .entry)) signer (previousIn (now (bytes .entry)) previous) (take count (now (places .entry)))) (placeOf (roundIn (now (s .entry))) (now (id .entry)))) (left o (now (s .exit))) (now (reply .entry)) (now (reply .exit)) ⌝ }
+    ensures kept { λ _. ⌜ Kept (now (s .entry)) (now (s .exit)) ⌝ }
 {
-    typed(round, id);
-    let held = size(round.held);
-    let at = previous_place(&round.ids, held, bytes, previous);
-    process(
-        hold_vote(round, id, signer, at, places, count, 1),
-        held,
-        reply,
-    )
+    let held = size(s[HELD_AT]);
+    let at = previous_place(&s[IDS_AT..KINDS_AT], held, bytes, previous);
+    hold_vote(s, id, signer, at, places, count, 1);
+    process(s, masks, held, reply)
 }
 
 // An acceptor message, whose references are the first `count` of some places, and whose previous id stands in its bytes.
 pub fn enter_vote<'a>(
-    round: Round,
-    id: [u8; 32],
+    s: &mut [u8],
+    masks: &'a [Mask],
+    id: &'a [u8],
     signer: u8,
     bytes: &'a [u8],
     previous: bool,
     places: &'a [u8],
     count: usize,
     reply: &mut [u8],
-) -> Delivered
-    requires { ⌜ Enterable round id (now reply) × ((42 ≤ length (now bytes)) × ((count ≤ length (now places)) × Referring round (previousIn (now bytes) previous) (take count (now places)))) ⌝ }
-    ensures { λ r. ⌜ Gives (entered sha256 round (says id signer (previousIn (now (bytes .entry)) previous) (take count (now (places .entry)))) (placeOf round id)) r (now (reply .entry)) (now (reply .exit)) ⌝ }
+) -> Outcome
+    requires { ⌜ (roundLen ≤ length (now s)) × ((now masks ≡ roundIn (now s) .graph .masks) × (Enterable (roundIn (now s)) (now id) (now reply) × ((length (now id) ≡ 32) × ((42 ≤ length (now bytes)) × ((count ≤ length (now places)) × Referring (roundIn (now s)) (previousIn (now bytes) previous) (take count (now places))))))) ⌝ }
+    ensures given { λ o. ⌜ Gives (entered sha256 (roundIn (now (s .entry))) (says (now (id .entry)) signer (previousIn (now (bytes .entry)) previous) (take count (now (places .entry)))) (placeOf (roundIn (now (s .entry))) (now (id .entry)))) (left o (now (s .exit))) (now (reply .entry)) (now (reply .exit)) ⌝ }
+    ensures kept { λ _. ⌜ Kept (now (s .entry)) (now (s .exit)) ⌝ }
 {
-    let held = size(round.held);
-    match place_of(&round.ids, held, &id) {
-        Found::At(p) => process(returned(round, p), p, reply),
-        Found::Nothing => add_vote(round, id, signer, bytes, previous, places, count, reply),
+    let held = size(s[HELD_AT]);
+    match place_of(&s[IDS_AT..KINDS_AT], held, id) {
+        Found::At(p) => {
+            returned(s, p);
+            process(s, masks, p, reply)
+        }
+        Found::Nothing => add_vote(s, masks, id, signer, bytes, previous, places, count, reply),
     }
 }

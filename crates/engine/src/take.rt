@@ -5,12 +5,23 @@ use crate::judge::judge;
 use base::refusal::Refusal;
 use base::size;
 use derive::Note;
+use graph::Mask;
 use message::AcceptorMessage;
 use message::Proposal;
 use message::layout::references_at;
-use round::Delivered;
 use round::Outcome;
-use round::Round;
+use roundbytes::BALLOTS_AT;
+use roundbytes::BAY_AT;
+use roundbytes::HELD_AT;
+use roundbytes::HOUSE_AT;
+use roundbytes::IDS_AT;
+use roundbytes::KINDS_AT;
+use roundbytes::KNOWN_AT;
+use roundbytes::OWN_AT;
+use roundbytes::RECENT_AT;
+use roundbytes::SIGNERS_AT;
+use roundbytes::masks_in;
+use roundbytes::word16;
 use steps::lookup::previous_place;
 use steps::rows::is_awaited;
 use steps::rows::is_foreign;
@@ -29,10 +40,11 @@ ghost use Rattle.message.specs.Reader.{reading};
 ghost use Rattle.message.specs.declared.Reading.the-variants.{OfAcceptor};
 ghost use Rattle.protocol.specs.Table.{says};
 ghost use Rattle.round.specs.Handed.{fits};
-ghost use Rattle.round.specs.Rows.{referenceIds, previousId, lacks, unchained, messageOf, full};
+ghost use Rattle.round.specs.Rows.{otherRound, isKnownId, referenceIds, previousId, lacks, unchained, messageOf, full};
 ghost use Rattle.round.specs.Delivery.{proposalTaken, acceptorTaken};
+ghost use Rattle.roundbytes.specs.Layout.{roundLen, roundIn, Kept};
 ghost use Rattle.steps.specs.Lent.{previousIn, placesIn};
-ghost use Rattle.engine.specs.Giving.{Gives, Referring, refusal};
+ghost use Rattle.engine.specs.Giving.{Gives, left, Referring};
 ghost use Rattle.engine.specs.Turning.{rowOf, headRow, chainRow, formRow, soundRow};
 ghost use Rattle.engine.specs.declared.take.Row.the-variants.{Clear};
 
@@ -42,28 +54,37 @@ pub enum Row {
     Applies(Refusal),
 }
 
-// A refusal leaves the round as it was.
-pub fn refuse(round: Round, e: Refusal) -> Delivered
-    ensures { λ r. ⌜ r ≡ refusal round e ⌝ }
+// Row 8.
+fn of_another(s: &[u8], house: u16, bay: u16) -> bool
+    requires { ⌜ roundLen ≤ length (now s) ⌝ }
+    ensures { λ r. ⌜ r ≡ otherRound (roundIn (now (s .entry))) house bay ⌝ }
 {
-    Delivered {
-        outcome: Outcome::Refused(e),
-        round,
-    }
+    let own_house = word16(s, HOUSE_AT);
+    let own_bay = word16(s, BAY_AT);
+    is_other(house, bay, own_house, own_bay)
+}
+
+// Row 10.
+fn knows<'a>(s: &'a [u8], id: &'a [u8]) -> bool
+    requires { ⌜ (roundLen ≤ length (now s)) × ((roundIn (now s) .held ≤ 128) × (length (now id) ≡ 32)) ⌝ }
+    ensures { λ r. ⌜ r ≡ isKnownId (roundIn (now (s .entry))) (now (id .entry)) ⌝ }
+{
+    let held = size(s[HELD_AT]);
+    is_known(&s[IDS_AT..KINDS_AT], held, &s[KNOWN_AT..RECENT_AT], id)
 }
 
 // Rows 8 to 10 of an acceptor message.
-fn head_row(round: Round, id: &[u8; 32], house: u16, bay: u16, signer: u8) -> Row
-    requires { ⌜ round .held ≤ 128 ⌝ }
-    ensures { λ r. ⌜ r ≡ rowOf (headRow round (now (id .entry)) house bay signer) ⌝ }
+fn head_row<'a>(s: &'a [u8], id: &'a [u8], house: u16, bay: u16, signer: u8) -> Row
+    requires { ⌜ (roundLen ≤ length (now s)) × ((roundIn (now s) .held ≤ 128) × (length (now id) ≡ 32)) ⌝ }
+    ensures { λ r. ⌜ r ≡ rowOf (headRow (roundIn (now (s .entry))) (now (id .entry)) house bay signer) ⌝ }
 {
-    if is_other(house, bay, round.house, round.bay) {
+    if of_another(s, house, bay) {
         return Row::Applies(Refusal::OtherRound);
     }
-    if is_foreign(round.graph.acceptors, signer) {
+    if is_foreign(s[0], signer) {
         return Row::Applies(Refusal::Signer);
     }
-    if is_known(&round.ids, size(round.held), &round.known, id) {
+    if knows(s, id) {
         return Row::Applies(Refusal::Known);
     }
     Row::Clear
@@ -76,15 +97,16 @@ pub struct Chained {
 }
 
 // Rows 11 and 12 of an acceptor message that was read from these bytes.
-fn chain_row(round: Round, bytes: &[u8], m: AcceptorMessage) -> Chained
-    requires { ⌜ (round .held ≤ 128) × ((m .count ≤ 128) × (referencesAt (m .previous) + 32 * m .count ≤ length (now bytes))) ⌝ }
-    ensures ruled { λ r. ⌜ r .row ≡ rowOf (chainRow (lacks round (referenceIds (now (bytes .entry)) m)) (unchained round (m .signer) (referenceIds (now (bytes .entry)) m) (previousId (now (bytes .entry)) m))) ⌝ }
-    ensures placed { λ r. ⌜ (r .row ≡ Clear → take (m .count) (r .places) ≡ placesIn (round .ids) (round .held) (referenceIds (now (bytes .entry)) m)) ⌝ }
+fn chain_row<'a>(s: &'a [u8], bytes: &'a [u8], m: AcceptorMessage) -> Chained
+    requires { ⌜ (roundLen ≤ length (now s)) × ((roundIn (now s) .held ≤ 128) × ((m .count ≤ 128) × (referencesAt (m .previous) + 32 * m .count ≤ length (now bytes)))) ⌝ }
+    ensures ruled { λ r. ⌜ r .row ≡ rowOf (chainRow (lacks (roundIn (now (s .entry))) (referenceIds (now (bytes .entry)) m)) (unchained (roundIn (now (s .entry))) (m .signer) (referenceIds (now (bytes .entry)) m) (previousId (now (bytes .entry)) m))) ⌝ }
+    ensures placed { λ r. ⌜ (r .row ≡ Clear → take (m .count) (r .places) ≡ placesIn (roundIn (now (s .entry)) .ids) (roundIn (now (s .entry)) .held) (referenceIds (now (bytes .entry)) m)) ⌝ }
 {
-    let held = size(round.held);
+    let held = size(s[HELD_AT]);
     let at = references_at(m.previous);
     let count = m.count;
-    let found = resolve(&round.ids, held, &round.known, bytes, at, count);
+    let ids = &s[IDS_AT..KINDS_AT];
+    let found = resolve(ids, held, &s[KNOWN_AT..RECENT_AT], bytes, at, count);
     let known = found.known;
     let places = found.places;
     if !known {
@@ -94,10 +116,10 @@ fn chain_row(round: Round, bytes: &[u8], m: AcceptorMessage) -> Chained
         };
     }
     let unchained = is_unchained(
-        &round.ids,
+        ids,
         held,
-        &round.kinds,
-        &round.signers,
+        &s[KINDS_AT..SIGNERS_AT],
+        &s[SIGNERS_AT..BALLOTS_AT],
         bytes,
         m.previous,
         count,
@@ -116,12 +138,13 @@ fn chain_row(round: Round, bytes: &[u8], m: AcceptorMessage) -> Chained
 }
 
 // Row 16.
-fn lacks_room(round: Round, id: &[u8; 32]) -> bool
-    requires { ⌜ round .held ≤ 128 ⌝ }
-    ensures { λ r. ⌜ r ≡ full round (now (id .entry)) ⌝ }
+fn lacks_room<'a>(s: &'a [u8], id: &'a [u8]) -> bool
+    requires { ⌜ (roundLen ≤ length (now s)) × ((roundIn (now s) .held ≤ 128) × (length (now id) ≡ 32)) ⌝ }
+    ensures { λ r. ⌜ r ≡ full (roundIn (now (s .entry))) (now (id .entry)) ⌝ }
 {
-    let awaited = is_awaited(&round.ids, size(round.held), &round.known, id);
-    is_full(round.held, round.own, awaited)
+    let held = size(s[HELD_AT]);
+    let awaited = is_awaited(&s[IDS_AT..KINDS_AT], held, &s[KNOWN_AT..RECENT_AT], id);
+    is_full(s[HELD_AT], word16(s, OWN_AT), awaited)
 }
 
 // Rows 13 to 16, from what was worked out.
@@ -145,66 +168,73 @@ fn form_row(note: Note, lacks: bool) -> Row
 
 // Rows 13 to 16 of an acceptor message, whose references are the first `count` of some places, and whose previous id stands in its bytes.
 fn sound_row<'a>(
-    round: Round,
-    id: &'a [u8; 32],
+    s: &'a [u8],
+    masks: &'a [Mask],
+    id: &'a [u8],
     signer: u8,
     bytes: &'a [u8],
     previous: bool,
     places: &'a [u8],
     count: usize,
 ) -> Row
-    requires { ⌜ T (fits round) × ((42 ≤ length (now bytes)) × ((count ≤ length (now places)) × Referring round (previousIn (now bytes) previous) (take count (now places)))) ⌝ }
-    ensures { λ r. ⌜ r ≡ rowOf (soundRow round (now (id .entry)) (messageOf round (says (now (id .entry)) signer (previousIn (now (bytes .entry)) previous) (take count (now (places .entry)))))) ⌝ }
+    requires { ⌜ (roundLen ≤ length (now s)) × ((now masks ≡ roundIn (now s) .graph .masks) × (T (fits (roundIn (now s))) × ((length (now id) ≡ 32) × ((42 ≤ length (now bytes)) × ((count ≤ length (now places)) × Referring (roundIn (now s)) (previousIn (now bytes) previous) (take count (now places))))))) ⌝ }
+    ensures { λ r. ⌜ r ≡ rowOf (soundRow (roundIn (now (s .entry))) (now (id .entry)) (messageOf (roundIn (now (s .entry))) (says (now (id .entry)) signer (previousIn (now (bytes .entry)) previous) (take count (now (places .entry)))))) ⌝ }
 {
-    let at = previous_place(&round.ids, size(round.held), bytes, previous);
-    let note = judge(round, id, &places[0..count], signer, at);
-    let lacks = lacks_room(round, id);
+    let held = size(s[HELD_AT]);
+    let at = previous_place(&s[IDS_AT..KINDS_AT], held, bytes, previous);
+    let note = judge(s, masks, id, &places[0..count], signer, at);
+    let lacks = lacks_room(s, id);
     form_row(note, lacks)
 }
 
 // A proposal: rows 8, 10 and 16.
-pub fn take_proposal(round: Round, id: [u8; 32], m: Proposal, reply: &mut [u8]) -> Delivered
-    requires { ⌜ T (fits round) × (4139 ≤ length (now reply)) ⌝ }
-    ensures { λ r. ⌜ Gives (proposalTaken sha256 round id m) r (now (reply .entry)) (now (reply .exit)) ⌝ }
+pub fn take_proposal(s: &mut [u8], id: &[u8], m: Proposal, reply: &mut [u8]) -> Outcome
+    requires { ⌜ (roundLen ≤ length (now s)) × (T (fits (roundIn (now s))) × ((length (now id) ≡ 32) × (4139 ≤ length (now reply)))) ⌝ }
+    ensures given { λ o. ⌜ Gives (proposalTaken sha256 (roundIn (now (s .entry))) (now (id .entry)) m) (left o (now (s .exit))) (now (reply .entry)) (now (reply .exit)) ⌝ }
+    ensures kept { λ _. ⌜ Kept (now (s .entry)) (now (s .exit)) ⌝ }
 {
-    if is_other(m.house, m.bay, round.house, round.bay) {
-        return refuse(round, Refusal::OtherRound);
+    if of_another(s, m.house, m.bay) {
+        return Outcome::Refused(Refusal::OtherRound);
     }
-    if is_known(&round.ids, size(round.held), &round.known, &id) {
-        return refuse(round, Refusal::Known);
+    if knows(s, id) {
+        return Outcome::Refused(Refusal::Known);
     }
-    if lacks_room(round, &id) {
-        return refuse(round, Refusal::Full);
+    if lacks_room(s, id) {
+        return Outcome::Refused(Refusal::Full);
     }
-    enter_proposal(round, id, m.proposer, m.ballot, reply)
+    let masks = masks_in(s);
+    enter_proposal(s, &masks, id, m.proposer, m.ballot, reply)
 }
 
 // An acceptor message that was read from these bytes: rows 8 to 16.
-pub fn take_vote(
-    round: Round,
-    id: [u8; 32],
+pub fn take_vote<'a>(
+    s: &mut [u8],
+    id: &'a [u8],
     m: AcceptorMessage,
-    bytes: &[u8],
+    bytes: &'a [u8],
     reply: &mut [u8],
-) -> Delivered
-    requires { ⌜ T (fits round) × ((reading (now bytes) ≡ OfAcceptor m) × (4139 ≤ length (now reply))) ⌝ }
-    ensures { λ r. ⌜ Gives (acceptorTaken sha256 round id m (previousId (now (bytes .entry)) m) (referenceIds (now (bytes .entry)) m)) r (now (reply .entry)) (now (reply .exit)) ⌝ }
+) -> Outcome
+    requires { ⌜ (roundLen ≤ length (now s)) × (T (fits (roundIn (now s))) × ((length (now id) ≡ 32) × ((reading (now bytes) ≡ OfAcceptor m) × (4139 ≤ length (now reply))))) ⌝ }
+    ensures given { λ o. ⌜ Gives (acceptorTaken sha256 (roundIn (now (s .entry))) (now (id .entry)) m (previousId (now (bytes .entry)) m) (referenceIds (now (bytes .entry)) m)) (left o (now (s .exit))) (now (reply .entry)) (now (reply .exit)) ⌝ }
+    ensures kept { λ _. ⌜ Kept (now (s .entry)) (now (s .exit)) ⌝ }
 {
-    if let Row::Applies(e) = head_row(round, &id, m.house, m.bay, m.signer) {
-        return refuse(round, e);
+    if let Row::Applies(e) = head_row(s, id, m.house, m.bay, m.signer) {
+        return Outcome::Refused(e);
     }
-    let chained = chain_row(round, bytes, m);
+    let chained = chain_row(s, bytes, m);
     let row = chained.row;
     let places = chained.places;
     if let Row::Applies(e) = row {
-        return refuse(round, e);
+        return Outcome::Refused(e);
     }
-    let sound = sound_row(round, &id, m.signer, bytes, m.previous, &places, m.count);
+    let masks = masks_in(s);
+    let sound = sound_row(s, &masks, id, m.signer, bytes, m.previous, &places, m.count);
     if let Row::Applies(e) = sound {
-        return refuse(round, e);
+        return Outcome::Refused(e);
     }
     enter_vote(
-        round,
+        s,
+        &masks,
         id,
         m.signer,
         bytes,

@@ -3,31 +3,42 @@ use crate::meaning::notes_of;
 use base::size;
 use derive::Verdict;
 use derive::report::report_for;
+use graph::Mask;
 use round::Report;
-use round::Round;
+use roundbytes::BALLOTS_AT;
+use roundbytes::HELD_AT;
+use roundbytes::KINDS_AT;
+use roundbytes::KNOWN_AT;
+use roundbytes::LIST_COUNTS_AT;
+use roundbytes::MASKS_AT;
+use roundbytes::RECENT_AT;
+use roundbytes::SIGNERS_AT;
 ghost use mathlib.Core.Path.{_≡_};
-ghost use Prim.Native.Nat.{_<_};
+ghost use Prim.Native.Nat.{_≤_, _<_};
 ghost use lib.Dec.{T};
+ghost use lib.ListN.{length};
 ghost use Rattle.protocol.specs.Report.{report};
 ghost use Rattle.derive.specs.Deciding.{shown};
 ghost use Rattle.round.specs.Held.{graphOf, knownMessages};
 ghost use Rattle.round.specs.Handed.{fits};
+ghost use Rattle.roundbytes.specs.Layout.{roundLen, roundIn};
 ghost use Rattle.engine.specs.Telling.{answerTo};
 
 // The verdict for a learner of the graph.
-pub fn verdict_for(round: Round, learner: usize) -> Verdict
-    requires { ⌜ T (fits round) × (learner < round .graph .learners) ⌝ }
-    ensures { λ r. ⌜ r ≡ shown (report (graphOf round) (knownMessages round) learner) ⌝ }
+pub fn verdict_for<'a>(s: &'a [u8], masks: &'a [Mask], learner: usize) -> Verdict
+    requires { ⌜ (roundLen ≤ length (now s)) × ((now masks ≡ roundIn (now s) .graph .masks) × (T (fits (roundIn (now s))) × (learner < roundIn (now s) .graph .learners))) ⌝ }
+    ensures { λ r. ⌜ r ≡ shown (report (graphOf (roundIn (now (s .entry)))) (knownMessages (roundIn (now (s .entry)))) learner) ⌝ }
 {
-    let notes = notes_of(round);
-    let learners = size(round.graph.learners);
-    let held = size(round.held);
+    let acceptors = s[0];
+    let notes = notes_of(s, masks);
+    let learners = size(s[1]);
+    let held = size(s[HELD_AT]);
     report_for(
-        &round.graph.counts,
-        &round.graph.masks,
-        &round.known,
-        &round.kinds,
-        &round.signers,
+        &s[LIST_COUNTS_AT..MASKS_AT],
+        masks,
+        &s[KNOWN_AT..RECENT_AT],
+        &s[KINDS_AT..SIGNERS_AT],
+        &s[SIGNERS_AT..BALLOTS_AT],
         &notes.low,
         &notes.high,
         &notes.forklow,
@@ -36,7 +47,9 @@ pub fn verdict_for(round: Round, learner: usize) -> Verdict
         &notes.learners,
         &notes.fresh,
         &notes.forms,
-        round.graph.acceptors,
+        &notes.keylow,
+        &notes.keyhigh,
+        acceptors,
         learners,
         held,
         learner,

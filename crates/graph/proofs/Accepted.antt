@@ -31,24 +31,28 @@ pub record FileGot (s : List ℕ) (f : Contents) : Type 0 where
   pub version : getD s 2 0 ≡ 1
   pub acceptors : getD s 3 0 ≡ f .acceptors
   pub learners : getD s 4 0 ≡ f .learners
+  pub someAcceptors : 1 ≤ f .acceptors
+  pub mostAcceptors : f .acceptors ≤ maxAcceptors
+  pub someLearners : 1 ≤ f .learners
   pub few : f .learners ≤ maxLearners
   pub lists : readGraph s (f .acceptors) (f .learners) 5 ≡ got f (length s)
 
-count-got : (s : List ℕ) (low high at x m : ℕ) → readCount s low high at ≡ got x m → (at < length s) × (x ≤ high) × (getD s at 0 ≡ x) × (m ≡ at + 1)
-count-got s low high at x m e = here (ltb at (length s)) refl (leb low v) (leb v high) refl e
+count-got : (s : List ℕ) (low high at x m : ℕ) → readCount s low high at ≡ got x m → (at < length s) × (low ≤ x) × (x ≤ high) × (getD s at 0 ≡ x) × (m ≡ at + 1)
+count-got s low high at x m e = here (ltb at (length s)) refl (leb low v) refl (leb v high) refl e
   where
     v : ℕ
     v = getD s at 0
 
-    here : (b : Bool) → ltb at (length s) ≡ b → (c d : Bool) → leb v high ≡ d → pick b (pick (c && d) (got v (at + 1)) (no Range)) (no Length) ≡ got x m
-        → (at < length s) × (x ≤ high) × (v ≡ x) × (m ≡ at + 1)
-    here false p c d r e = let z : _≡_ {A = ℕ} 0 1 = cc in absurd (omega arith)
-    here true p false d r e = let z : _≡_ {A = ℕ} 0 1 = cc in absurd (omega arith)
-    here true p true false r e = let z : _≡_ {A = ℕ} 0 1 = cc in absurd (omega arith)
-    here true p true true r e =
+    here : (b : Bool) → ltb at (length s) ≡ b → (c : Bool) → leb low v ≡ c → (d : Bool) → leb v high ≡ d
+        → pick b (pick (c && d) (got v (at + 1)) (no Range)) (no Length) ≡ got x m → (at < length s) × (low ≤ x) × (x ≤ high) × (v ≡ x) × (m ≡ at + 1)
+    here false p c q d r e = let z : _≡_ {A = ℕ} 0 1 = cc in absurd (omega arith)
+    here true p false q d r e = let z : _≡_ {A = ℕ} 0 1 = cc in absurd (omega arith)
+    here true p true q false r e = let z : _≡_ {A = ℕ} 0 1 = cc in absurd (omega arith)
+    here true p true q true r e =
         let f : v ≡ x = cc in
+        let k = leb-true low v q in
         let l = leb-true v high r in
-        (ltb-true at (length s) p, omega arith, f, cc)
+        (ltb-true at (length s) p, omega arith, omega arith, f, cc)
 
 version-got : (s : List ℕ) (at x m : ℕ) → readVersion s at ≡ got x m → (getD s at 0 ≡ 1) × (m ≡ at + 1)
 version-got s at x m e = here (ltb at (length s)) (eqb (getD s at 0) 1) refl e
@@ -79,10 +83,10 @@ file-got s f end e =
     let (vi, vm) = version-got s 2 v m g in
     let (n, m₁, g₁, e₂) = then-got (readCount s 1 maxAcceptors m) _ f end e₁ in
     let g₁′ = subst (λ (x : ℕ). readCount s 1 maxAcceptors x ≡ got n m₁) vm g₁ in
-    let (ni, nh, ne, nm) = count-got s 1 maxAcceptors 3 n m₁ g₁′ in
+    let (ni, ng, nh, ne, nm) = count-got s 1 maxAcceptors 3 n m₁ g₁′ in
     let (l, m₂, g₂, e₃) = then-got (readCount s 1 maxLearners m₁) _ f end e₂ in
     let g₂′ = subst (λ (x : ℕ). readCount s 1 maxLearners x ≡ got l m₂) nm g₂ in
-    let (li, lh, le, lm) = count-got s 1 maxLearners 4 l m₂ g₂′ in
+    let (li, lg, lh, le, lm) = count-got s 1 maxLearners 4 l m₂ g₂′ in
     let e₄ = subst (λ (x : ℕ). readGraph s n l x ≡ got f end) lm e₃ in
     let G = graph-got s n l 5 f end (omega arith) e₄ in
     let w : readGraph s (f .acceptors) (f .learners) 5 ≡ got f end = ap₂ (λ (x y : ℕ). readGraph s x y 5) (G .acceptors) (G .learners) ∙ e₄ in
@@ -92,6 +96,9 @@ file-got s f end e =
       version = vi;
       acceptors = ne ∙ sym (G .acceptors);
       learners = le ∙ sym (G .learners);
+      someAcceptors = subst (λ (x : ℕ). 1 ≤ x) (sym (G .acceptors)) ng;
+      mostAcceptors = subst (λ (x : ℕ). x ≤ maxAcceptors) (sym (G .acceptors)) nh;
+      someLearners = subst (λ (x : ℕ). 1 ≤ x) (sym (G .learners)) lg;
       few = subst (λ (x : ℕ). x ≤ maxLearners) (sym (G .learners)) lh;
       lists = w ∙ ap (got f) (graph-end s (f .acceptors) (f .learners) 5 f end w);
     }

@@ -15,6 +15,7 @@ ghost use Prim.Native.Nat.{_+_, _-_, _*_, _≤_, _<_};
 ghost use lib.ListN.{length};
 ghost use lib.Seq.{slice};
 ghost use Rattle.base.specs.Bytes.{be};
+ghost use Rattle.graph.specs.Limits.{lists, maxAcceptors, maxLearners, maxMasks};
 ghost use Rattle.graph.specs.File.{last, maskAnswer, readCount, readMasks, readList, readLists, readRows};
 ghost use Rattle.graph.specs.Held.{pairList, holdAll, holdRows, Sized, fieldOf, MasksHeld, HeldAfter};
 
@@ -58,7 +59,7 @@ fn mask_answer(
     previous: Mask,
     m: Mask,
 ) -> Answer
-    requires { ⌜ (to ≤ length (now masks)) × ((acceptors ≤ 16) × (previous ≡ last 0 (slice from to (now masks)))) ⌝ }
+    requires { ⌜ (to ≤ length (now masks)) × ((acceptors ≤ maxAcceptors) × (previous ≡ last 0 (slice from to (now masks)))) ⌝ }
     ensures { λ r. ⌜ r ≡ maskAnswer acceptors (slice from to (now (masks .entry))) m ⌝ }
 {
     if m == 0 {
@@ -86,7 +87,7 @@ fn read_masks(
     first: usize,
     masks: &mut [Mask],
 ) -> Field
-    requires { ⌜ (length (now s) ≤ 65537) × ((at ≤ length (now s)) × ((acceptors ≤ 16) × ((count ≤ 8) × (first + 8 ≤ length (now masks))))) ⌝ }
+    requires { ⌜ (length (now s) ≤ 65537) × ((at ≤ length (now s)) × ((acceptors ≤ maxAcceptors) × ((count ≤ maxMasks) × (first + maxMasks ≤ length (now masks))))) ⌝ }
     ensures { λ r. ⌜ MasksHeld (readMasks (now (s .entry)) acceptors count [] at) r first (now (masks .entry)) (now (masks .exit)) ⌝ }
 {
     let mut here = at;
@@ -110,8 +111,8 @@ fn read_masks(
 
 // A list, put in as list k.
 fn read_list(s: &[u8], at: usize, acceptors: u8, low: usize, k: usize, masks: &mut [Mask]) -> Field
-    requires { ⌜ (length (now s) ≤ 65537) × ((at ≤ length (now s)) × ((acceptors ≤ 16) × ((k < 44) × (length (now masks) ≡ 352)))) ⌝ }
-    ensures { λ r. ⌜ MasksHeld (readList (now (s .entry)) acceptors low at) r (8 * k) (now (masks .entry)) (now (masks .exit)) ⌝ }
+    requires { ⌜ (length (now s) ≤ 65537) × ((at ≤ length (now s)) × ((acceptors ≤ maxAcceptors) × ((k < lists) × (length (now masks) ≡ maxMasks * lists)))) ⌝ }
+    ensures { λ r. ⌜ MasksHeld (readList (now (s .entry)) acceptors low at) r (maxMasks * k) (now (masks .entry)) (now (masks .exit)) ⌝ }
 {
     match read_count(s, at, low, MAX_MASKS) {
         Field::Refused(r) => Field::Refused(r),
@@ -128,7 +129,7 @@ pub fn read_quorums(
     counts: &mut [u8],
     masks: &mut [Mask],
 ) -> Field
-    requires { ⌜ (length (now s) ≤ 65537) × ((at ≤ length (now s)) × ((acceptors ≤ 16) × ((learners ≤ 8) × Sized (now counts) (now masks)))) ⌝ }
+    requires { ⌜ (length (now s) ≤ 65537) × ((at ≤ length (now s)) × ((acceptors ≤ maxAcceptors) × ((learners ≤ maxLearners) × Sized (now counts) (now masks)))) ⌝ }
     ensures { λ r. ⌜ HeldAfter (readLists (now (s .entry)) acceptors 1 learners [] at) (λ ls. holdAll (λ a. a) 0 ls (record { counts = now (counts .entry); masks = now (masks .entry) })) r (record { counts = now (counts .exit); masks = now (masks .exit) }) ⌝ }
 {
     let mut here = at;
@@ -155,7 +156,7 @@ fn read_row(
     counts: &mut [u8],
     masks: &mut [Mask],
 ) -> Field
-    requires { ⌜ (length (now s) ≤ 65537) × ((at ≤ length (now s)) × ((acceptors ≤ 16) × ((learners ≤ 8) × ((a ≤ learners) × Sized (now counts) (now masks))))) ⌝ }
+    requires { ⌜ (length (now s) ≤ 65537) × ((at ≤ length (now s)) × ((acceptors ≤ maxAcceptors) × ((learners ≤ maxLearners) × ((a ≤ learners) × Sized (now counts) (now masks))))) ⌝ }
     ensures { λ r. ⌜ HeldAfter (readLists (now (s .entry)) acceptors 0 (learners - a) [] at) (λ ls. holdAll (pairList a) a ls (record { counts = now (counts .entry); masks = now (masks .entry) })) r (record { counts = now (counts .exit); masks = now (masks .exit) }) ⌝ }
 {
     let mut here = at;
@@ -182,7 +183,7 @@ pub fn read_rows(
     counts: &mut [u8],
     masks: &mut [Mask],
 ) -> Field
-    requires { ⌜ (length (now s) ≤ 65537) × ((at ≤ length (now s)) × ((acceptors ≤ 16) × ((learners ≤ 8) × Sized (now counts) (now masks)))) ⌝ }
+    requires { ⌜ (length (now s) ≤ 65537) × ((at ≤ length (now s)) × ((acceptors ≤ maxAcceptors) × ((learners ≤ maxLearners) × Sized (now counts) (now masks)))) ⌝ }
     ensures { λ r. ⌜ HeldAfter (readRows (now (s .entry)) acceptors learners [] at) (λ rows. holdRows 0 rows (record { counts = now (counts .entry); masks = now (masks .entry) })) r (record { counts = now (counts .exit); masks = now (masks .exit) }) ⌝ }
 {
     let mut here = at;

@@ -18,6 +18,7 @@ pub mod valid;
 ghost use mathlib.Core.Path.{_≡_};
 ghost use Prim.Native.Nat.{_≤_};
 ghost use lib.ListN.{length};
+ghost use Rattle.graph.specs.Limits.{maxAcceptors, maxLearners};
 ghost use Rattle.graph.specs.File.{answerNumber, answerOf, readGraph};
 ghost use Rattle.graph.specs.Held.{refusedReading, contentsReading, readingOf};
 
@@ -85,7 +86,7 @@ fn refused(r: Refusal) -> Reading
 
 // The lists of a file, from byte 5 on, and then whether the graph is valid and condensed.
 fn read_lists(file: &[u8], acceptors: u8, learners: u8) -> Reading
-    requires { ⌜ (length (now file) ≤ 65537) × ((5 ≤ length (now file)) × ((acceptors ≤ 16) × (learners ≤ 8))) ⌝ }
+    requires { ⌜ (length (now file) ≤ 65537) × ((5 ≤ length (now file)) × ((acceptors ≤ maxAcceptors) × (learners ≤ maxLearners))) ⌝ }
     ensures { λ x. ⌜ x ≡ contentsReading (readGraph (now (file .entry)) acceptors learners 5) ⌝ }
 {
     let l = size(learners);

@@ -9,6 +9,7 @@ ghost use lib.ListN.{length, getD};
 ghost use lib.Seq.{slice};
 ghost use Rattle.base.specs.Tests.{any};
 ghost use Rattle.base.specs.Sets.{has, contains, apart};
+ghost use Rattle.graph.specs.Limits.{lists, maxLearners, maxMasks};
 ghost use Rattle.graph.specs.LearnerGraph.{isQuorum, isSafe, safeWithout};
 ghost use Rattle.graph.specs.Held.{within, triangle, listOf, pairList, heldGraph, Sized};
 
@@ -44,7 +45,7 @@ pub fn some_within(masks: &[Mask], from: usize, to: usize, set: Mask) -> bool
 // How many masks list k has.
 pub fn count_of(counts: &[u8], k: usize) -> usize
     requires { ⌜ k < length (now counts) ⌝ }
-    ensures { λ r. ⌜ (r ≡ min (getD (now (counts .entry)) k 0) 8) × (r ≤ 8) ⌝ }
+    ensures { λ r. ⌜ (r ≡ min (getD (now (counts .entry)) k 0) maxMasks) × (r ≤ maxMasks) ⌝ }
 {
     let n = size(counts[k]);
     if n < MAX_MASKS { n } else { MAX_MASKS }
@@ -52,7 +53,7 @@ pub fn count_of(counts: &[u8], k: usize) -> usize
 
 // Whether the set contains a mask of list k.
 fn holds<'a>(counts: &'a [u8], masks: &'a [Mask], k: usize, set: Mask) -> bool
-    requires { ⌜ (k < 44) × Sized (now counts) (now masks) ⌝ }
+    requires { ⌜ (k < lists) × Sized (now counts) (now masks) ⌝ }
     ensures { λ r. ⌜ r ≡ any (within set) (listOf (now (counts .entry)) (now (masks .entry)) k) ⌝ }
 {
     let from = MAX_MASKS * k;
@@ -68,7 +69,7 @@ pub fn some_contained<'a>(
     acceptors: u8,
     set: Mask,
 ) -> bool
-    requires { ⌜ (k < 44) × Sized (now counts) (now masks) ⌝ }
+    requires { ⌜ (k < lists) × Sized (now counts) (now masks) ⌝ }
     ensures { λ r. ⌜ r ≡ any (contains acceptors (has set)) (listOf (now (counts .entry)) (now (masks .entry)) k) ⌝ }
 {
     holds(counts, masks, k, set | !known(acceptors))
@@ -82,7 +83,7 @@ pub fn some_apart<'a>(
     acceptors: u8,
     set: Mask,
 ) -> bool
-    requires { ⌜ (k < 44) × Sized (now counts) (now masks) ⌝ }
+    requires { ⌜ (k < lists) × Sized (now counts) (now masks) ⌝ }
     ensures { λ r. ⌜ r ≡ any (apart acceptors (has set)) (listOf (now (counts .entry)) (now (masks .entry)) k) ⌝ }
 {
     holds(counts, masks, k, !(set & known(acceptors)))
@@ -90,7 +91,7 @@ pub fn some_apart<'a>(
 
 // 1 + 2 + .. + b.
 fn triangle(b: usize) -> usize
-    requires { ⌜ b < 8 ⌝ }
+    requires { ⌜ b < maxLearners ⌝ }
     ensures { λ r. ⌜ (r ≡ triangle b) × (r ≤ 28) ⌝ }
 {
     b * (b + 1) / 2
@@ -98,8 +99,8 @@ fn triangle(b: usize) -> usize
 
 // Which list is that of the pair a-b.
 pub fn pair_list(a: usize, b: usize) -> usize
-    requires { ⌜ (a < 8) × (b < 8) ⌝ }
-    ensures { λ r. ⌜ (r ≡ pairList a b) × (r < 44) ⌝ }
+    requires { ⌜ (a < maxLearners) × (b < maxLearners) ⌝ }
+    ensures { λ r. ⌜ (r ≡ pairList a b) × (r < lists) ⌝ }
 {
     if a < b {
         MAX_LEARNERS + (triangle(b) + a)
@@ -116,7 +117,7 @@ pub fn is_quorum<'a>(
     a: usize,
     set: Mask,
 ) -> bool
-    requires { ⌜ (a < 8) × Sized (now counts) (now masks) ⌝ }
+    requires { ⌜ (a < maxLearners) × Sized (now counts) (now masks) ⌝ }
     ensures { λ r. ⌜ ((l : ℕ) → r ≡ isQuorum (heldGraph acceptors l (now (counts .entry)) (now (masks .entry))) a (has set)) ⌝ }
 {
     some_contained(counts, masks, a, acceptors, set)
@@ -131,7 +132,7 @@ pub fn holds_safe<'a>(
     b: usize,
     set: Mask,
 ) -> bool
-    requires { ⌜ (a < 8) × ((b < 8) × Sized (now counts) (now masks)) ⌝ }
+    requires { ⌜ (a < maxLearners) × ((b < maxLearners) × Sized (now counts) (now masks)) ⌝ }
     ensures { λ r. ⌜ ((l : ℕ) → r ≡ isSafe (heldGraph acceptors l (now (counts .entry)) (now (masks .entry))) a b (has set)) ⌝ }
 {
     some_contained(counts, masks, pair_list(a, b), acceptors, set)
@@ -146,7 +147,7 @@ pub fn safe_without<'a>(
     b: usize,
     set: Mask,
 ) -> bool
-    requires { ⌜ (a < 8) × ((b < 8) × Sized (now counts) (now masks)) ⌝ }
+    requires { ⌜ (a < maxLearners) × ((b < maxLearners) × Sized (now counts) (now masks)) ⌝ }
     ensures { λ r. ⌜ ((l : ℕ) → r ≡ safeWithout (heldGraph acceptors l (now (counts .entry)) (now (masks .entry))) a b (has set)) ⌝ }
 {
     some_apart(counts, masks, pair_list(a, b), acceptors, set)

@@ -8,6 +8,7 @@ use crate::lists::some_apart;
 ghost use mathlib.Core.Path.{_≡_};
 ghost use Prim.Native.Nat.{ℕ, _≤_, _<_};
 ghost use Rattle.base.specs.Tests.{all, below};
+ghost use Rattle.graph.specs.Limits.{maxLearners};
 ghost use Rattle.graph.specs.LearnerGraph.{common, validAt, valid};
 ghost use Rattle.graph.specs.Held.{listOf, heldGraph, Sized};
 
@@ -21,7 +22,7 @@ fn meets<'a>(
     b: usize,
     s: Mask,
 ) -> bool
-    requires { ⌜ (a < 8) × ((b < 8) × Sized (now counts) (now masks)) ⌝ }
+    requires { ⌜ (a < maxLearners) × ((b < maxLearners) × Sized (now counts) (now masks)) ⌝ }
     ensures { λ r. ⌜ ((l : ℕ) → r ≡ all (λ q. all (λ t. common (heldGraph acceptors l (now (counts .entry)) (now (masks .entry))) s q t) (listOf (now (counts .entry)) (now (masks .entry)) b)) (listOf (now (counts .entry)) (now (masks .entry)) a)) ⌝ }
 {
     let from = MAX_MASKS * a;
@@ -38,7 +39,7 @@ fn meets<'a>(
 
 // The same for every safe mask of a-b.
 fn valid_at<'a>(counts: &'a [u8], masks: &'a [Mask], acceptors: u8, a: usize, b: usize) -> bool
-    requires { ⌜ (a < 8) × ((b < 8) × Sized (now counts) (now masks)) ⌝ }
+    requires { ⌜ (a < maxLearners) × ((b < maxLearners) × Sized (now counts) (now masks)) ⌝ }
     ensures { λ r. ⌜ ((l : ℕ) → r ≡ validAt (heldGraph acceptors l (now (counts .entry)) (now (masks .entry))) a b) ⌝ }
 {
     let k = pair_list(a, b);
@@ -62,7 +63,7 @@ fn valid_row<'a>(
     learners: usize,
     a: usize,
 ) -> bool
-    requires { ⌜ (learners ≤ 8) × ((a < 8) × Sized (now counts) (now masks)) ⌝ }
+    requires { ⌜ (learners ≤ maxLearners) × ((a < maxLearners) × Sized (now counts) (now masks)) ⌝ }
     ensures { λ r. ⌜ r ≡ all (λ b. validAt (heldGraph acceptors learners (now (counts .entry)) (now (masks .entry))) a b) (below learners) ⌝ }
 {
     let mut b = learners;
@@ -76,7 +77,7 @@ fn valid_row<'a>(
 }
 
 pub fn is_valid<'a>(counts: &'a [u8], masks: &'a [Mask], acceptors: u8, learners: usize) -> bool
-    requires { ⌜ (learners ≤ 8) × Sized (now counts) (now masks) ⌝ }
+    requires { ⌜ (learners ≤ maxLearners) × Sized (now counts) (now masks) ⌝ }
     ensures { λ r. ⌜ r ≡ valid (heldGraph acceptors learners (now (counts .entry)) (now (masks .entry))) ⌝ }
 {
     let mut a = learners;

@@ -1,4 +1,5 @@
 // Ballots: the upper 32 bits are the round number and the lower 32 bits the value.
+use base::value;
 ghost use mathlib.Core.Path.{_≡_};
 ghost use Rattle.base.specs.Ballots.{ballotOf, roundOf, valueOf};
 ghost use Rattle.message.specs.Writer.{writtenRound};
@@ -21,7 +22,7 @@ pub fn round_of(ballot: u64) -> u32
 pub fn value_of(ballot: u64) -> u32
     ensures { λ r. ⌜ r ≡ valueOf ballot ⌝ }
 {
-    (ballot & 0xFFFF_FFFF) as u32
+    value(ballot) as u32
 }
 
 // The round number that a proposal is written with.

@@ -42,11 +42,5 @@ pub mod TableTests
 pub mod Run
 -- A run with a forking acceptor, in which learners that are not entangled decide differently
 pub mod ForkedRun
--- Honest acceptors and the proposal in Tran, by the records of a table
-pub mod Records
--- The highest ballot of some places
-pub mod Highest
--- Buried by two ballots: the highest, and the highest of another value
-pub mod Bury
 -- The misreadings that document 01 shuts out, each with a case in which it would answer otherwise
 pub mod Misreadings

@@ -1,19 +1,18 @@
 -- The definitions at a place, as equations over the records and over what is worked out for earlier places: 1b, 2a, ballot, Caught, the
 -- chain property and well-formed 1bs. A loop may run over the places below any n that is large enough.
 use mathlib.Core.Path.{_≡_, refl, ap, _∙_}
-use mathlib.Core.Bool.{Bool, true, not, _&&_, _||_}
-use mathlib.Core.Option.{Option, none, some}
+use mathlib.Core.Bool.{Bool, not, _&&_, _||_}
 use mathlib.Core.List.{List, [], _∷_, _++_}
 use Prim.Native.Nat.{ℕ, _≤_, _<_, max}
 use native.Mathlib.Omega.{arith}
 use lib.Dec.{T, eqb}
 use Rattle.base.specs.Tests.{any, all, below}
 use Rattle.base.proofs.Tests.{any-filter, or-l}
-use Rattle.protocol.specs.Ids.{Id, sameId, samePrevious}
-use Rattle.protocol.specs.Message.{Message, listed, idOf, signer, previous, references, isProposal, isAcceptor, proposed, is1b, is2a, signers, tran, trans, largest, ballot, forks, caughtIn, caught}
-use Rattle.protocol.specs.WellFormed.{isPrevious, linked, chained, alone, formed1b}
+use Rattle.protocol.specs.Ids.{sameId, samePrevious}
+use Rattle.protocol.specs.Message.{Message, listed, idOf, signer, references, isProposal, proposed, is1b, is2a, signers, tran, trans, largest, ballot, forks, caughtIn, caught}
+use Rattle.protocol.specs.WellFormed.{alone, formed1b}
 use Rattle.protocol.specs.Table.{Held, offers, says, Table, at, heldId, heldSigner, heldPrevious, offered, places, Ordered, gather, nodeBy, tree, reach}
-use Rattle.protocol.specs.Places.{is1bAt, is2aAt, ballotAt, caughtAt, chainedAt, formed1bAt}
+use Rattle.protocol.specs.Places.{is1bAt, is2aAt, ballotAt, caughtAt, formed1bAt}
 use Rattle.protocol.proofs.Ids.{sameId-law}
 use Rattle.protocol.proofs.Table.{tree-is, tree-id, tree-signer, tree-previous, tree-proposal}
 use Rattle.protocol.proofs.Loops.{any-tran, all-beneath}
@@ -103,19 +102,3 @@ module _ (t : Table) (ord : Ordered t) (i : ℕ) where
       self : T (sameId (idOf (tree t i)) (idOf (tree t i)) || not (eqb (ballotAt t i) (ballotAt t i)) || isProposal (tree t i))
       self = or-l (sameId (idOf (tree t i)) (idOf (tree t i)) || not (eqb (ballotAt t i) (ballotAt t i))) (isProposal (tree t i))
           (or-l (sameId (idOf (tree t i)) (idOf (tree t i))) (not (eqb (ballotAt t i) (ballotAt t i))) (sameId-law (idOf (tree t i)) (idOf (tree t i)) .1 refl))
-
--- ---- the chain property: a named previous id is that of a place referred to, with an acceptor message of the same signer
-unfoldable pub linkedAt : Table → Held → Option Id → Bool
-linkedAt t r none = true
-linkedAt t r (some q) = any (λ k. not (offered (at t k)) && sameId (heldId (at t k)) q && eqb (heldSigner (at t k)) (heldSigner r)) (places r)
-
-node-chained : (t : Table) (r : Held) → chained (nodeBy (tree t) r) ≡ linkedAt t r (heldPrevious r)
-unfolding chained linked isPrevious previous references signer nodeBy linkedAt heldPrevious heldSigner places
-node-chained t (offers i s b) = refl
-node-chained t (says i s none r) = refl
-node-chained t (says i s (some q) r) =
-    any-gather (λ u. isAcceptor u && sameId (idOf u) q && eqb (signer u) s) (tree t) r
-    ∙ (λ e. any (λ k. not (tree-proposal t k e) && sameId (tree-id t k e) q && eqb (tree-signer t k e) s) r)
-
-pub chained-at : (t : Table) → Ordered t → (i : ℕ) → chainedAt t i ≡ linkedAt t (at t i) (heldPrevious (at t i))
-chained-at t ord i = ap chained (tree-is t ord i) ∙ node-chained t (at t i)

@@ -11,10 +11,10 @@ use Rattle.base.proofs.Tests.{and-l, and-cong, or-r, any-filter, all-filter, an
 use Rattle.graph.specs.LearnerGraph.{LearnerGraph, isQuorum, safeWithout}
 use Rattle.protocol.specs.Message.{Message, signer, is2a, signers, tran, ballot, value}
 use Rattle.protocol.specs.Learners.{con, overrides, buriesBy, buriedBy, ownVote, standsBy, con2aBy, con2asBy, sameValue, freshBy, backsBy, backersBy, lrns, backers}
-use Rattle.protocol.specs.WellFormed.{formed2a, wellFormed}
+use Rattle.protocol.specs.WellFormed.{formed2a}
 use Rattle.protocol.specs.Report.{votes, decides, Verdict}
 use Rattle.protocol.specs.Table.{Table, at, heldSigner, Ordered, tree, messages, reach}
-use Rattle.protocol.specs.Places.{is1bAt, is2aAt, ballotAt, valueAt, caughtAt, chainedAt, formed1bAt, conAt, buriedAt, freshAt, lrnsAt, formed2aAt, decidesAt, reportAt}
+use Rattle.protocol.specs.Places.{is1bAt, is2aAt, ballotAt, valueAt, caughtAt, conAt, buriedAt, freshAt, lrnsAt, formed2aAt, decidesAt, reportAt}
 use Rattle.protocol.proofs.Message.{2a-law}
 use Rattle.protocol.proofs.Knot.{lrns-is}
 use Rattle.protocol.proofs.Report.{Says, says-cong, Deciding, report-law}
@@ -30,10 +30,6 @@ module _ (t : Table) (G : LearnerGraph) (i : ℕ) where
   pub formed2a-at : formed2aAt t G i ≡ (not (is2aAt t i) || any (lrnsAt t G i) (below (G .learners)))
   unfolding formed2a
   formed2a-at = refl
-
-  pub wellFormed-at : wellFormed G (tree t i) ≡ (chainedAt t i && formed1bAt t i && formed2aAt t G i)
-  unfolding wellFormed
-  wellFormed-at = refl
 
 module _ (t : Table) (G : LearnerGraph) (ord : Ordered t) (i n : ℕ) (l : i ≤ n) where
   -- ---- Buried, at a 1b

@@ -1,5 +1,5 @@
 -- The graph of an accepted file passes row 17.
-use mathlib.Core.Path.{_≡_, refl}
+use mathlib.Core.Path.{_≡_, refl, sym, subst}
 use mathlib.Core.Bool.{not, _&&_}
 use mathlib.Core.List.{List, [], _∷_, List·Memᴰ·head, List·Memᴰ·tail}
 use Prim.Native.Nat.{ℕ, zero, suc, _≤_}
@@ -12,9 +12,10 @@ use Rattle.graph.specs.declared.Answer.{Answer}
 use Rattle.graph.specs.declared.Answer.the-variants.{Accepted, Refused}
 use Rattle.graph.specs.Limits.{maxAcceptors, maxLearners, maxMasks, lists}
 use Rattle.graph.specs.File.{Got, got, no, Contents, contents, graphOf, graphAnswer}
+use Rattle.graph.proofs.Reader.{Small, Rows, GraphGot, graph-got}
+use Rattle.graph.proofs.Accepted.{FileGot, file-got}
 use Rattle.graph.specs.Held.{Held, pairList, hold, holdAll, holdRows, heldOf, nothing, graphOfHeld, graphReading, contentsReading, readingOf}
 use Rattle.round.specs.Handed.{inUse, listFits, graphFits}
-use Rattle.round.proofs.GraphRead.{AllSmall, RowsSmall, Says, contents-say}
 
 -- ---- lists held
 abbrev Counts : Held → Type 0
@@ -27,45 +28,47 @@ set-small (y ∷ l) zero x h e (suc k) = h (suc k)
 set-small (y ∷ l) (suc i) x h e zero = h zero
 set-small (y ∷ l) (suc i) x h e (suc k) = set-small l i x (λ j. h (suc j)) e k
 
-hold-all : (f : ℕ → ℕ) (i : ℕ) (ls : List (List ℕ)) (h : Held) → AllSmall ls → Counts h → Counts (holdAll f i ls h)
+hold-all : (f : ℕ → ℕ) (i : ℕ) (ls : List (List ℕ)) (h : Held) → Small ls → Counts h → Counts (holdAll f i ls h)
 unfolding holdAll
 hold-all f i [] h a c = c
 hold-all f i (l ∷ ls) h a c = hold-all f (suc i) ls (hold (f i) l h) (λ x m. a x (List·Memᴰ·tail m)) (set-small (h .counts) (f i) (length l) c (a l (List·Memᴰ·head refl)))
 
-hold-rows : (i : ℕ) (rows : List (List (List ℕ))) (h : Held) → RowsSmall rows → Counts h → Counts (holdRows i rows h)
+hold-rows : (i k : ℕ) (rows : List (List (List ℕ))) (h : Held) → Rows k rows → Counts h → Counts (holdRows i rows h)
 unfolding holdRows
-hold-rows i [] h a c = c
-hold-rows i (row ∷ rows) h a c = hold-rows (suc i) rows (holdAll (pairList i) i row h) (λ x m. a x (List·Memᴰ·tail m)) (hold-all (pairList i) i row h (a row (List·Memᴰ·head refl)) c)
+hold-rows i zero rows h a c = subst (λ (x : List (List (List ℕ))). Counts (holdRows i x h)) (sym a) c
+hold-rows i (suc k) [] h a c = absurd a
+hold-rows i (suc k) (row ∷ rows) h a c = hold-rows (suc i) k rows (holdAll (pairList i) i row h) (a .2) (hold-all (pairList i) i row h (a .1) c)
 
 pub zeros-at : (n k : ℕ) → _≡_ {A = ℕ} (getD (replicate n 0) k 0) 0
 zeros-at zero k = refl
 zeros-at (suc n) zero = refl
 zeros-at (suc n) (suc k) = zeros-at n k
 
-held-small : (f : Contents) → AllSmall (f .quorums) → RowsSmall (f .rows) → Counts (heldOf f)
+held-small : (f : Contents) (l : ℕ) → Small (f .quorums) → Rows l (f .rows) → Counts (heldOf f)
 unfolding heldOf
-held-small f q r =
-    hold-rows 0 (f .rows) (holdAll (λ a. a) 0 (f .quorums) nothing) r (hold-all (λ a. a) 0 (f .quorums) nothing q (λ k. omega (arith, zeros-at lists k)))
+held-small f l q r =
+    hold-rows 0 l (f .rows) (holdAll (λ a. a) 0 (f .quorums) nothing) r (hold-all (λ a. a) 0 (f .quorums) nothing q (λ k. omega (arith, zeros-at lists k)))
 
 -- ---- row 17 of the graph
-says-fits : (s : List ℕ) (f : Contents) → Says s f → T (graphFits (graphOfHeld (f .acceptors) (f .learners) (heldOf f)))
+says-fits : (s : List ℕ) (f : Contents) → FileGot s f → T (graphFits (graphOfHeld (f .acceptors) (f .learners) (heldOf f)))
 unfolding graphFits listFits
 says-fits s f w =
+    let lists′ : GraphGot (f .acceptors) (f .learners) f = graph-got s (f .acceptors) (f .learners) 5 f (length s) (w .long) (w .lists) in
     let g = graphOfHeld (f .acceptors) (f .learners) (heldOf f) in
     let a = leb 1 (f .acceptors) in
     let b = leb (f .acceptors) maxAcceptors in
     let c = leb 1 (f .learners) in
     let d = leb (f .learners) maxLearners in
     and-in (a && b && c && d) (all (listFits g) (below lists))
-    (and-in (a && b && c) d (and-in (a && b) c (and-in a b (le→leb 1 (f .acceptors) (w .someAcceptors)) (le→leb (f .acceptors) maxAcceptors (w .mostAcceptors))) (le→leb 1 (f .learners) (w .someLearners))) (le→leb (f .learners) maxLearners (w .mostLearners)))
-    (all-in (listFits g) (below lists) (λ k m. or-r (not (inUse (f .learners) k)) (leb (getD (heldOf f .counts) k 0) maxMasks) (le→leb (getD (heldOf f .counts) k 0) maxMasks (held-small f (w .quorums) (w .rows) k))))
+    (and-in (a && b && c) d (and-in (a && b) c (and-in a b (le→leb 1 (f .acceptors) (w .someAcceptors)) (le→leb (f .acceptors) maxAcceptors (w .mostAcceptors))) (le→leb 1 (f .learners) (w .someLearners))) (le→leb (f .learners) maxLearners (w .few)))
+    (all-in (listFits g) (below lists) (λ k m. or-r (not (inUse (f .learners) k)) (leb (getD (heldOf f .counts) k 0) maxMasks) (le→leb (getD (heldOf f .counts) k 0) maxMasks (held-small f (f .learners) (lists′ .small) (lists′ .rows) k))))
 
-reading-fits : (s : List ℕ) (f : Contents) (a : Answer) → Says s f → graphReading f a .answer ≡ Accepted → T (graphFits (graphReading f a .graph))
+reading-fits : (s : List ℕ) (f : Contents) (a : Answer) → FileGot s f → graphReading f a .answer ≡ Accepted → T (graphFits (graphReading f a .graph))
 reading-fits s f Accepted w e = says-fits s f w
 reading-fits s f (Refused r) w e = let z : _≡_ {A = ℕ} 0 1 = cc in absurd (omega arith)
 
 got-fits : (s : List ℕ) (g : Got Contents) → contents s ≡ g → contentsReading g .answer ≡ Accepted → T (graphFits (contentsReading g .graph))
-got-fits s (got f m) e k = reading-fits s f (graphAnswer (graphOf f)) (contents-say s f m e) k
+got-fits s (got f m) e k = reading-fits s f (graphAnswer (graphOf f)) (file-got s f m e) k
 got-fits s (no r) e k = let z : _≡_ {A = ℕ} 0 1 = cc in absurd (omega arith)
 
 pub accepted-fits : (s : List ℕ) → readingOf s .answer ≡ Accepted → T (graphFits (readingOf s .graph))

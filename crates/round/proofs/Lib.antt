@@ -34,7 +34,6 @@ pub mod OneDelivery
 -- Demand 1 on each delivery
 pub mod OneCall
 -- A round that was just opened
-pub mod GraphRead
 pub mod GraphFits
 pub mod JustOpened
 -- ---- lists of calls

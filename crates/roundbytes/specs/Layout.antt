@@ -3,7 +3,7 @@
 use mathlib.Core.List.{List, [], _∷_, _++_}
 use mathlib.Core.Path.{_≡_}
 use Prim.Native.Nat.{ℕ, zero, suc, _+_, _*_, _^_, _≤_, _<_}
-use lib.ListN.{length, getD, take}
+use lib.ListN.{length, getD, take, drop}
 use Rattle.base.specs.Bytes.{be, bytes, part, Octets}
 use Rattle.graph.specs.declared.Graph.{Graph}
 use Rattle.graph.specs.Limits.{lists, maxMasks}
@@ -113,6 +113,10 @@ roundIn b =
       known = part maxHeld b knownAt;
       recent = part maxHeld b recentAt;
     }
+
+-- ---- what stands behind a round's own bytes is as it was
+abbrev pub Kept : List ℕ → List ℕ → Type 0
+Kept before after = (length after ≡ length before) × (drop roundLen after ≡ drop roundLen before)
 
 -- ---- what the types of a round's fields give it: the sizes of its arrays,
 pub record Sized (r : Round) : Type 0 where

@@ -16,43 +16,43 @@ ghost use Rattle.message.specs.Writer.{fronted};
 ghost use Rattle.roundbytes.specs.Layout.{houseAt, roundLen, words, numbers, graphBytes, numberBytes, roundBytes, graphIn, roundIn};
 
 // Where each field stands; specs/Layout has the sums. The two bytes in front are the graph's acceptors and learners.
-const LIST_COUNTS_AT: usize = 2;
+pub const LIST_COUNTS_AT: usize = 2;
 
-const MASKS_AT: usize = 46;
+pub const MASKS_AT: usize = 46;
 
-const HOUSE_AT: usize = 1454;
+pub const HOUSE_AT: usize = 1454;
 
-const BAY_AT: usize = 1456;
+pub const BAY_AT: usize = 1456;
 
-const OWN_AT: usize = 1458;
+pub const OWN_AT: usize = 1458;
 
-const HELD_AT: usize = 1460;
+pub const HELD_AT: usize = 1460;
 
-const LAST_AT: usize = 1461;
+pub const LAST_AT: usize = 1461;
 
-const IDS_AT: usize = 1462;
+pub const IDS_AT: usize = 1462;
 
-const KINDS_AT: usize = 5558;
+pub const KINDS_AT: usize = 5558;
 
-const SIGNERS_AT: usize = 5686;
+pub const SIGNERS_AT: usize = 5686;
 
-const BALLOTS_AT: usize = 5814;
+pub const BALLOTS_AT: usize = 5814;
 
-const PREVIOUS_AT: usize = 6838;
+pub const PREVIOUS_AT: usize = 6838;
 
-const COUNTS_AT: usize = 6966;
+pub const COUNTS_AT: usize = 6966;
 
-const REFERENCES_AT: usize = 7094;
+pub const REFERENCES_AT: usize = 7094;
 
-const KNOWN_AT: usize = 23478;
+pub const KNOWN_AT: usize = 23478;
 
-const RECENT_AT: usize = 23606;
+pub const RECENT_AT: usize = 23606;
 
 // How many bytes a round takes.
 pub const ROUND_LEN: usize = 23734;
 
 // A two-byte number.
-fn word16(s: &[u8], at: usize) -> u16
+pub fn word16(s: &[u8], at: usize) -> u16
     requires { ⌜ at + 2 ≤ length (now s) ⌝ }
     ensures { λ r. ⌜ r ≡ be 2 (now (s .entry)) at ⌝ }
 {
@@ -115,7 +115,7 @@ fn part16384(s: &[u8], at: usize) -> [u8; 16384]
     out
 }
 
-fn masks_in(s: &[u8]) -> [u32; 352]
+pub fn masks_in(s: &[u8]) -> [u32; 352]
     requires { ⌜ 1454 ≤ length (now s) ⌝ }
     ensures { λ r. ⌜ r ≡ numbers 4 352 (now (s .entry)) 46 ⌝ }
 {
@@ -128,7 +128,7 @@ fn masks_in(s: &[u8]) -> [u32; 352]
     out
 }
 
-fn ballots_in(s: &[u8]) -> [u64; 128]
+pub fn ballots_in(s: &[u8]) -> [u64; 128]
     requires { ⌜ 6838 ≤ length (now s) ⌝ }
     ensures { λ r. ⌜ r ≡ numbers 8 128 (now (s .entry)) 5814 ⌝ }
 {

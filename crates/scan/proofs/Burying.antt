@@ -1,17 +1,21 @@
 -- The peaks of some ballots answer Buried: a higher ballot of another value is among them exactly if one of the two peaks is one.
-use mathlib.Core.Path.{_≡_, refl, sym, subst, _∙_}
+use mathlib.Core.Path.{_≡_, refl, sym, ap, subst, _∙_}
 use mathlib.Core.Logic.{_⊎_, inl, inr}
+use mathlib.Core.List.{List}
 use mathlib.Core.Bool.{Bool, true, false, not, _&&_, _||_}
 use Prim.Native.Nat.{ℕ, zero, suc, _≤_, _<_}
 use native.Mathlib.Decide.{decLt, ℕ-discrete}
 use native.Mathlib.Omega.{arith}
-use borrow.Author.Tests.{ltb-true, ltb-false, eqb-true, eqb-false}
+use borrow.Author.Tests.{le-ltb, ltb-true, ltb-false, eqb-true, eqb-false}
+use lib.ListN.{getD}
 use lib.Dec.{T, eqb, ltb, ltb→lt, lt→ltb}
 use Rattle.base.specs.Tests.{pick, any, below}
 use Rattle.base.proofs.Tests.{same-test, and-in, and-l, and-r, or-l, or-r, or-out, neqb→ne, ne→neqb, any-in, any-out, below-in, below-out}
 use Rattle.base.specs.Ballots.{valueOf}
 use Rattle.scan.specs.declared.Peaks.{Peaks}
-use Rattle.scan.specs.Arrays.{raised, peaksOf, isBuried}
+use Rattle.scan.specs.PlaceSets.{inSet}
+use Rattle.scan.specs.Arrays.{Covers, voteBallot, raised, peaksOf, isBuried, isOpposed, isRival, isBarred}
+use Rattle.scan.proofs.Loops.{any-none, not-covered}
 
 -- what the peaks of f 0, .., f (n - 1) are
 record Peaked (f : ℕ → ℕ) (n : ℕ) (p : Peaks) : Type 0 where
@@ -98,6 +102,27 @@ unfolding peaksOf
 peaked f zero = record { top = λ j l. absurd (omega arith); next = λ j l d. absurd (omega arith); bestAt = inl refl; otherAt = inl refl }
 peaked f (suc n) = peaked-more f n (peaksOf f n) (peaked f n)
 
+-- a ballot of 0 raises nothing
+raised-none : (p : Peaks) → raised p 0 ≡ p
+unfolding raised
+raised-none p = simp (le-ltb (p .best) 0 (omega arith), le-ltb (p .other) 0 (omega arith))
+
+-- nor do the places from j to below r, where all are 0
+peaks-skip : (f : ℕ → ℕ) (j r : ℕ) → j ≤ r → ((q : ℕ) → j ≤ q → q < r → f q ≡ 0) → peaksOf f j ≡ peaksOf f r
+unfolding peaksOf
+peaks-skip f j zero l h = let e : j ≡ 0 = omega arith in ap (peaksOf f) e
+peaks-skip f j (suc r) l h = step (λ (m : j ≤ r). peaks-skip f j r m (λ q k g. h q k (omega arith))) (decLt r j)
+  where
+    step : (j ≤ r → peaksOf f j ≡ peaksOf f r) → Dec (r < j) → peaksOf f j ≡ peaksOf f (suc r)
+    step rest (yes a) = let e : j ≡ suc r = omega arith in ap (peaksOf f) e
+    step rest (no a) = rest (omega arith) ∙ sym (ap (raised (peaksOf f r)) (h r (omega arith) (omega arith)) ∙ raised-none (peaksOf f r))
+
+-- nor does going on to the next of the places that cover the votes
+pub peaks-next : (vote : ℕ → Bool) (top : ℕ → ℕ) (n low high j r : ℕ) → Covers n vote low high
+    → (j ≤ r) × ((r ≤ n) × ((q : ℕ) → j ≤ q → q < r → inSet low high q ≡ false)) → peaksOf (λ q. pick (vote q) (top q) 0) j ≡ peaksOf (λ q. pick (vote q) (top q) 0) r
+peaks-next vote top n low high j r cover (l, (u, none)) =
+    peaks-skip (λ q. pick (vote q) (top q) 0) j r l (λ q a b. ap (λ (t : Bool). pick t (top q) 0) (not-covered n vote low high q cover (omega arith) (none q a b)))
+
 -- Buried as a comparison
 pub buried-by-peaks : (f : ℕ → ℕ) (n x : ℕ)
     → isBuried (peaksOf f n .best) (peaksOf f n .other) x ≡ any (λ k. ltb x (f k) && not (eqb (valueOf (f k)) (valueOf x))) (below n)
@@ -147,3 +172,13 @@ buried-by-peaks f n x = go (peaksOf f n) (peaked f n)
             step j m l d b (yes e) =
                 let o = h .next j m (λ q. d (q ∙ e)) in
                 or-r (over (p .best)) (over (p .other)) (attained (omega arith) e (h .otherAt))
+
+-- an opposed place is a rival: where there is none of these, the learner is not barred
+pub no-rival : (forms learners signers tops : List ℕ) (n low high signer v b : ℕ) → any (isRival forms learners signers tops low high signer v b) (below n) ≡ false → isBarred forms learners signers tops n low high signer v b ≡ false
+no-rival forms learners signers tops n low high signer v b e = none (peaksOf (voteBallot forms learners tops low high b) n)
+  where
+    none : (p : Peaks) → any (isOpposed forms learners signers tops low high b signer v (p .best) (p .other)) (below n) ≡ false
+    none p =
+        any-none (isOpposed forms learners signers tops low high b signer v (p .best) (p .other)) n (λ j l t.
+        subst T e (any-in (isRival forms learners signers tops low high signer v b) {x = j} (below-in n l)
+        (and-l (isRival forms learners signers tops low high signer v b j) (not (isBuried (p .best) (p .other) (getD tops j 0))) t)))

@@ -4,14 +4,15 @@ use mathlib.Core.Bool.{Bool, true, false, _&&_, _||_}
 use mathlib.Core.List.{List, [], _∷_, _++_}
 use Prim.Native.Nat.{ℕ, _+_, _≤_, _<_, max}
 use native.Mathlib.Numerals.{add-one}
-use native.Mathlib.Decide.{ℕ-discrete}
+use native.Mathlib.Decide.{ℕ-discrete, decLt}
 use native.Mathlib.Omega.{arith}
 use lib.Dec.{T, eqb, ltb, eqb→eq, eqb-refl, ltb→lt, lt→ltb, not-T}
 use lib.ListN.{length, getD, take, set}
 use lib.Seq.{take-suc, getD-set-same, getD-set-other}
 use Rattle.base.specs.Tests.{any, below}
 use Rattle.base.proofs.Tests.{same-test, not-true, and-l, and-r, and-in, any-in, any-out, below-in, below-out}
-use Rattle.scan.specs.Arrays.{highest}
+use Rattle.scan.specs.PlaceSets.{inSet}
+use Rattle.scan.specs.Arrays.{Covers, highest}
 
 -- ---- over the numbers below a bound
 pub any-suc : (f : ℕ → Bool) (i : ℕ) → any f (below (i + 1)) ≡ (f i || any f (below i))
@@ -26,6 +27,30 @@ any-done f j n l g = let e : j ≡ n = omega arith in ap (λ (k : ℕ). any f (b
 
 pub any-none : (f : ℕ → Bool) (n : ℕ) → ((j : ℕ) → j < n → T (f j) → ⊥) → any f (below n) ≡ false
 any-none f n h = not-true (any f (below n)) (not-T (any f (below n)) (λ t. let (j, m, k) = any-out f (below n) t in h j (below-out n m) k))
+
+-- what fails from j to below r adds nothing
+pub any-skip : (f : ℕ → Bool) (j r : ℕ) → j ≤ r → ((q : ℕ) → j ≤ q → q < r → f q ≡ false) → any f (below r) ≡ any f (below j)
+any-skip f j r l h = same-test _ _ to from
+  where
+    to : T (any f (below r)) → T (any f (below j))
+    to t = let (q, m, k) = any-out f (below r) t in step q (below-out r m) k (decLt q j)
+      where
+        step : (q : ℕ) → q < r → T (f q) → Dec (q < j) → T (any f (below j))
+        step q g k (yes d) = any-in f {x = q} (below-in j d) k
+        step q g k (no d) = absurd (subst T (h q (omega arith) g) k)
+
+    from : T (any f (below j)) → T (any f (below r))
+    from t = let (q, m, k) = any-out f (below j) t in let g = below-out j m in any-in f {x = q} (below-in r (omega arith)) k
+
+-- a place that is not in a set that covers the test fails it
+pub not-covered : (n : ℕ) (f : ℕ → Bool) (low high q : ℕ) → Covers n f low high → q < n → inSet low high q ≡ false → f q ≡ false
+not-covered n f low high q cover l e = not-true (f q) (not-T (f q) (λ t. subst T e (cover q l t)))
+
+-- ---- from one member of a set to the next: a test that only places of the covered test pass
+pub any-next : (n : ℕ) (f g : ℕ → Bool) (low high j r : ℕ) → Covers n f low high → ((q : ℕ) → T (g q) → T (f q))
+    → (j ≤ r) × ((r ≤ n) × ((q : ℕ) → j ≤ q → q < r → inSet low high q ≡ false)) → any g (below j) ≡ any g (below r)
+any-next n f g low high j r cover part (l, (u, none)) =
+    sym (any-skip g j r l (λ q a b. not-covered n g low high q (λ i d t. cover i d (part i t)) (omega arith) (none q a b)))
 
 -- a number put into a set where the test passes
 pub put-again : (test : ℕ → Bool) (key : ℕ → ℕ) (j p : ℕ) (on x y : Bool) → x ≡ ((on && eqb (key j) p) || y) → on ≡ test j

@@ -2,8 +2,8 @@
 use mathlib.Core.Path.{_≡_}
 use mathlib.Core.Bool.{Bool, not, _&&_, _||_}
 use mathlib.Core.List.{List, [], _∷_}
-use Prim.Native.Nat.{ℕ, zero, suc, _*_, _≤_, _<_, max}
-use lib.Dec.{eqb, ltb}
+use Prim.Native.Nat.{ℕ, zero, suc, _*_, _%_, _≤_, _<_, max}
+use lib.Dec.{T, eqb, ltb}
 use lib.ListN.{length, getD}
 use Rattle.base.specs.Tests.{pick, any, below}
 use Rattle.base.specs.Sets.{has}
@@ -15,6 +15,10 @@ use Rattle.scan.specs.PlaceSets.{inSet, meets}
 -- an array with an entry for each place
 abbrev pub Whole : List ℕ → Type 0
 Whole l = length l ≡ 128
+
+-- the set has each of the first n places that passes the test
+abbrev pub Covers : ℕ → (ℕ → Bool) → ℕ → ℕ → Type 0
+Covers n f low high = (j : ℕ) → j < n → T (f j) → T (inSet low high j)
 
 -- ---- the largest entry at some places
 unfoldable pub highest : List ℕ → List ℕ → ℕ
@@ -101,6 +105,21 @@ pub record Lowest (ids : List ℕ) (n : ℕ) (id : List ℕ) (r : ℕ) : Type 0 
   pub bound : r ≤ n
   pub here : r < n → idIn ids r ≡ id
   pub first : (k : ℕ) → k < r → idIn ids k ≡ id → ⊥
+
+-- ---- the places by a key: the set of each key has each of the first n places with this key
+abbrev pub Indexed : ℕ → (ℕ → ℕ) → List ℕ → List ℕ → Type 0
+Indexed n key low high = (j : ℕ) → j < n → T (inSet (getD low (key j) 0) (getD high (key j) 0) j)
+
+-- no set of an index has lost a place
+abbrev pub Grown : List ℕ → List ℕ → List ℕ → List ℕ → Type 0
+Grown low high low′ high′ = (i q : ℕ) → q < 128 → T (inSet (getD low i 0) (getD high i 0) q) → T (inSet (getD low′ i 0) (getD high′ i 0) q)
+
+-- the key of an id is its first byte, without the highest bit
+abbrev pub idKey : List ℕ → ℕ → ℕ
+idKey ids at = getD ids at 0 % 128
+
+abbrev pub IdsIndexed : List ℕ → ℕ → List ℕ → List ℕ → Type 0
+IdsIndexed ids n low high = Indexed n (λ j. idKey ids (32 * j)) low high
 
 -- each of the first n places has its name, and 255 stands for itself
 pub record Named (ids : List ℕ) (n : ℕ) (names : List ℕ) : Type 0 where

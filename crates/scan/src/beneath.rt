@@ -1,7 +1,9 @@
 // What lies beneath a message, from what lies beneath the places that it refers to.
+use crate::Places;
 use crate::Under;
 use crate::sets::has_place;
 use crate::sets::larger;
+use crate::sets::next_in;
 use base::size;
 ghost use mathlib.Core.Path.{_≡_};
 ghost use mathlib.Core.Bool.{_&&_};
@@ -9,7 +11,7 @@ ghost use Prim.Native.Nat.{ℕ, _≤_, _<_};
 ghost use lib.ListN.{length, getD};
 ghost use Rattle.base.specs.Tests.{any, below};
 ghost use Rattle.scan.specs.PlaceSets.{inSet};
-ghost use Rattle.scan.specs.Arrays.{Whole, Beneath, isOffer, isCrowding};
+ghost use Rattle.scan.specs.Arrays.{Whole, Covers, Beneath, isOffer, isCrowding};
 
 pub fn under<'a>(
     low: &'a [u64],
@@ -42,16 +44,16 @@ pub fn under<'a>(
     }
 }
 
-// Whether a proposal is among the places of a set.
-pub fn is_grounded(kinds: &[u8], n: usize, low: u64, high: u64) -> bool
-    requires { ⌜ (n ≤ 128) × Whole (now kinds) ⌝ }
+// Whether a proposal is among the places of a set; the walk has each such place.
+pub fn is_grounded(kinds: &[u8], n: usize, low: u64, high: u64, walk: Places) -> bool
+    requires { ⌜ (n ≤ 128) × (Whole (now kinds) × Covers n (λ j. inSet low high j && isOffer (now kinds) j) (walk .low) (walk .high)) ⌝ }
     ensures { λ r. ⌜ r ≡ any (λ j. inSet low high j && isOffer (now (kinds .entry)) j) (below n) ⌝ }
 {
     let mut found = false;
-    let mut j: usize = 0;
+    let mut j: usize = next_in(walk.low, walk.high, 0, n);
     while j < n {
         found = (has_place(low, high, j) & (kinds[j] == 1)) | found;
-        j += 1;
+        j = next_in(walk.low, walk.high, j + 1, n);
     }
     found
 }
@@ -73,7 +75,7 @@ fn is_crowding<'a>(
     has_place(low, high, j) & (names[j] != name) & (tops[j] == ballot) & (kinds[j] != 1)
 }
 
-// Whether there is such a place: then a 1b of this name and ballot is not well-formed.
+// Whether there is such a place, each of which the walk has: then a 1b of this name and ballot is not well-formed.
 pub fn is_crowded<'a>(
     kinds: &'a [u8],
     names: &'a [u8],
@@ -83,15 +85,17 @@ pub fn is_crowded<'a>(
     high: u64,
     name: u8,
     ballot: u64,
+    walk: Places,
 ) -> bool
-    requires { ⌜ (n ≤ 128) × (Whole (now kinds) × ((length (now names) ≡ 256) × Whole (now tops))) ⌝ }
+    requires { ⌜ (n ≤ 128) × (Whole (now kinds) × ((length (now names) ≡ 256) × (Whole (now tops)
+        × Covers n (isCrowding (now kinds) (now names) (now tops) low high name ballot) (walk .low) (walk .high)))) ⌝ }
     ensures { λ r. ⌜ r ≡ any (isCrowding (now (kinds .entry)) (now (names .entry)) (now (tops .entry)) low high name ballot) (below n) ⌝ }
 {
     let mut found = false;
-    let mut j: usize = 0;
+    let mut j: usize = next_in(walk.low, walk.high, 0, n);
     while j < n {
         found = is_crowding(kinds, names, tops, low, high, name, ballot, j) | found;
-        j += 1;
+        j = next_in(walk.low, walk.high, j + 1, n);
     }
     found
 }

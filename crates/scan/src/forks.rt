@@ -2,6 +2,7 @@
 use crate::Places;
 use crate::sets::has_place;
 use crate::sets::meet;
+use crate::sets::next_in;
 use crate::sets::with_acceptor;
 use crate::sets::with_place;
 use base::size;
@@ -13,7 +14,7 @@ ghost use lib.ListN.{length, getD};
 ghost use Rattle.base.specs.Tests.{any, below};
 ghost use Rattle.base.specs.Sets.{has};
 ghost use Rattle.scan.specs.PlaceSets.{inSet};
-ghost use Rattle.scan.specs.Arrays.{Whole, isFork, isCaught};
+ghost use Rattle.scan.specs.Arrays.{Whole, Covers, isFork, isCaught};
 
 // Whether the message at place j forks with one of this signer, name and link.
 fn is_fork<'a>(
@@ -33,7 +34,7 @@ fn is_fork<'a>(
     (kinds[j] != 1) & (signers[j] == signer) & (names[j] != name) & (names[at] == link)
 }
 
-// Those of the first n places that fork with it.
+// Those of the first n places that fork with it; the walk has each of them.
 pub fn forking<'a>(
     kinds: &'a [u8],
     signers: &'a [u8],
@@ -43,22 +44,24 @@ pub fn forking<'a>(
     signer: u8,
     name: u8,
     link: u8,
+    walk: Places,
 ) -> Places
-    requires { ⌜ (n ≤ 128) × (Whole (now kinds) × (Whole (now signers) × ((length (now names) ≡ 256) × Whole (now previous)))) ⌝ }
+    requires { ⌜ (n ≤ 128) × (Whole (now kinds) × (Whole (now signers) × ((length (now names) ≡ 256) × (Whole (now previous)
+        × Covers n (isFork (now kinds) (now signers) (now names) (now previous) signer name link) (walk .low) (walk .high))))) ⌝ }
     ensures { λ r. ⌜ ((q : ℕ) → q < 128 → inSet (r .low) (r .high) q
         ≡ any (λ j. isFork (now (kinds .entry)) (now (signers .entry)) (now (names .entry)) (now (previous .entry)) signer name link j && eqb j q) (below n)) ⌝ }
 {
     let mut s = Places { low: 0, high: 0 };
-    let mut j: usize = 0;
+    let mut j: usize = next_in(walk.low, walk.high, 0, n);
     while j < n {
         let on = is_fork(kinds, signers, names, previous, signer, name, link, j);
         s = with_place(s.low, s.high, j, on);
-        j += 1;
+        j = next_in(walk.low, walk.high, j + 1, n);
     }
     s
 }
 
-// The signers of those of the first n places that are in the set and fork with another one there.
+// The signers of those of the first n places that are in the set and fork with another one there; the walk has each of them.
 pub fn caught_in<'a>(
     signers: &'a [u8],
     fork_low: &'a [u64],
@@ -66,17 +69,19 @@ pub fn caught_in<'a>(
     n: usize,
     low: u64,
     high: u64,
+    walk: Places,
 ) -> u32
-    requires { ⌜ (n ≤ 128) × (Whole (now signers) × (Whole (now «fork_low») × Whole (now «fork_high»))) ⌝ }
+    requires { ⌜ (n ≤ 128) × (Whole (now signers) × (Whole (now «fork_low») × (Whole (now «fork_high»)
+        × Covers n (isCaught (now «fork_low») (now «fork_high») low high) (walk .low) (walk .high)))) ⌝ }
     ensures { λ r. ⌜ ((p : ℕ) → p < 32 → has r p
         ≡ any (λ j. isCaught (now («fork_low» .entry)) (now («fork_high» .entry)) low high j && eqb (getD (now (signers .entry)) j 0) p) (below n)) ⌝ }
 {
     let mut mask: u32 = 0;
-    let mut j: usize = 0;
+    let mut j: usize = next_in(walk.low, walk.high, 0, n);
     while j < n {
         let on = has_place(low, high, j) & meet(low, high, fork_low[j], fork_high[j]);
         mask = with_acceptor(mask, signers[j], on);
-        j += 1;
+        j = next_in(walk.low, walk.high, j + 1, n);
     }
     mask
 }

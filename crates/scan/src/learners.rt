@@ -1,30 +1,25 @@
 // Buried, fresh and the learners of a 2a.
 use crate::Peaks;
+use crate::Places;
 use crate::sets::has_learner;
 use crate::sets::has_place;
+use crate::sets::next_in;
 use crate::sets::with_acceptor;
 use crate::sets::with_learner;
+use base::value;
 use graph::Mask;
 use graph::lists::is_quorum;
 use graph::lists::safe_without;
 ghost use mathlib.Core.Path.{_≡_};
 ghost use mathlib.Core.Bool.{not, _&&_, _||_};
 ghost use Prim.Native.Nat.{ℕ, _≤_, _<_};
-ghost use lib.Dec.{eqb};
+ghost use lib.Dec.{eqb, ltb};
 ghost use lib.ListN.{length, getD};
 ghost use Rattle.base.specs.Tests.{any, below};
 ghost use Rattle.base.specs.Sets.{has};
-ghost use Rattle.base.specs.Ballots.{valueOf};
 ghost use Rattle.graph.specs.LearnerGraph.{isQuorum, safeWithout};
 ghost use Rattle.graph.specs.Held.{heldGraph, Sized};
-ghost use Rattle.scan.specs.Arrays.{Whole, isVote, voteBallot, raised, peaksOf, isBuried, isOpposed, isRival, isBarred, isBacker, backedBy};
-
-// The value of a ballot: its lower 32 bits.
-pub fn value(x: u64) -> u64
-    ensures { λ r. ⌜ r ≡ valueOf x ⌝ }
-{
-    x & 0xFFFFFFFF
-}
+ghost use Rattle.scan.specs.Arrays.{Whole, Covers, isVote, voteBallot, raised, peaksOf, isBuried, isOpposed, isRival, isBarred, isBacker, backedBy};
 
 // Whether place j is in the set and holds a 2a with learner b.
 fn is_vote<'a>(forms: &'a [u8], learners: &'a [u8], low: u64, high: u64, b: usize, j: usize) -> bool
@@ -75,7 +70,7 @@ fn raise(p: Peaks, x: u64) -> Peaks
     Peaks { best, other }
 }
 
-// The peaks of the ballots of the votes for b among the first n places.
+// The peaks of the ballots of the votes for b among the first n places. The walk has each place of such a vote.
 fn peaks<'a>(
     forms: &'a [u8],
     learners: &'a [u8],
@@ -84,16 +79,18 @@ fn peaks<'a>(
     low: u64,
     high: u64,
     b: usize,
+    walk: Places,
 ) -> Peaks
-    requires { ⌜ (b < 8) × ((n ≤ 128) × (Whole (now forms) × (Whole (now learners) × Whole (now tops)))) ⌝ }
+    requires { ⌜ (b < 8) × ((n ≤ 128) × (Whole (now forms) × (Whole (now learners) × (Whole (now tops)
+        × Covers n (isVote (now forms) (now learners) low high b) (walk .low) (walk .high))))) ⌝ }
     ensures { λ r. ⌜ r ≡ peaksOf (voteBallot (now (forms .entry)) (now (learners .entry)) (now (tops .entry)) low high b) n ⌝ }
 {
     let mut p = Peaks { best: 0, other: 0 };
-    let mut j: usize = 0;
+    let mut j: usize = next_in(walk.low, walk.high, 0, n);
     while j < n {
         let x = vote_ballot(forms, learners, tops, low, high, b, j);
         p = raise(p, x);
-        j += 1;
+        j = next_in(walk.low, walk.high, j + 1, n);
     }
     p
 }
@@ -130,7 +127,7 @@ fn is_opposed<'a>(
         & !is_buried(best, other, x)
 }
 
-// Whether there is such a place among the first n.
+// Whether there is such a place among the first n. The walk has each of them.
 fn is_barred<'a>(
     forms: &'a [u8],
     learners: &'a [u8],
@@ -144,12 +141,14 @@ fn is_barred<'a>(
     v: u64,
     best: u64,
     other: u64,
+    walk: Places,
 ) -> bool
-    requires { ⌜ (b < 8) × ((n ≤ 128) × (Whole (now forms) × (Whole (now learners) × (Whole (now signers) × Whole (now tops))))) ⌝ }
+    requires { ⌜ (b < 8) × ((n ≤ 128) × (Whole (now forms) × (Whole (now learners) × (Whole (now signers) × (Whole (now tops)
+        × Covers n (isOpposed (now forms) (now learners) (now signers) (now tops) low high b signer v best other) (walk .low) (walk .high)))))) ⌝ }
     ensures { λ r. ⌜ r ≡ any (isOpposed (now (forms .entry)) (now (learners .entry)) (now (signers .entry)) (now (tops .entry)) low high b signer v best other) (below n) ⌝ }
 {
     let mut found = false;
-    let mut j: usize = 0;
+    let mut j: usize = next_in(walk.low, walk.high, 0, n);
     while j < n {
         found = is_opposed(
             forms,
@@ -166,12 +165,12 @@ fn is_barred<'a>(
             j,
         )
             | found;
-        j += 1;
+        j = next_in(walk.low, walk.high, j + 1, n);
     }
     found
 }
 
-// The learners of the 2a at place j, if it is in the set, of this signer and of another value than v. Most places fail the first test, which reads two bytes.
+// The learners of the 2a at place j, if it is in the set, of this signer and of another value than v.
 fn rivals_at<'a>(
     forms: &'a [u8],
     learners: &'a [u8],
@@ -196,7 +195,7 @@ fn rivals_at<'a>(
     }
 }
 
-// The learners of such places among the first n: no other learner can be barred.
+// The learners of such places among the first n: no other learner can be barred. The walk has each of these places.
 fn rivals<'a>(
     forms: &'a [u8],
     learners: &'a [u8],
@@ -207,15 +206,17 @@ fn rivals<'a>(
     high: u64,
     signer: u8,
     v: u64,
+    walk: Places,
 ) -> u8
-    requires { ⌜ (n ≤ 128) × (Whole (now forms) × (Whole (now learners) × (Whole (now signers) × Whole (now tops)))) ⌝ }
+    requires { ⌜ (n ≤ 128) × (Whole (now forms) × (Whole (now learners) × (Whole (now signers) × (Whole (now tops)
+        × ((b : ℕ) → Covers n (isRival (now forms) (now learners) (now signers) (now tops) low high signer v b) (walk .low) (walk .high)))))) ⌝ }
     ensures { λ r. ⌜ ((b : ℕ) → has r b ≡ any (isRival (now (forms .entry)) (now (learners .entry)) (now (signers .entry)) (now (tops .entry)) low high signer v b) (below n)) ⌝ }
 {
     let mut mask: u8 = 0;
-    let mut j: usize = 0;
+    let mut j: usize = next_in(walk.low, walk.high, 0, n);
     while j < n {
         mask = rivals_at(forms, learners, signers, tops, low, high, signer, v, j) | mask;
-        j += 1;
+        j = next_in(walk.low, walk.high, j + 1, n);
     }
     mask
 }
@@ -233,15 +234,19 @@ fn bars<'a>(
     v: u64,
     among: u8,
     b: usize,
+    votes: Places,
+    rival_votes: Places,
 ) -> bool
     requires { ⌜ (b < 8) × ((n ≤ 128) × (Whole (now forms) × (Whole (now learners) × (Whole (now signers) × (Whole (now tops)
-        × ((q : ℕ) → has among q ≡ any (isRival (now forms) (now learners) (now signers) (now tops) low high signer v q) (below n))))))) ⌝ }
+        × (((q : ℕ) → has among q ≡ any (isRival (now forms) (now learners) (now signers) (now tops) low high signer v q) (below n))
+        × (((q : ℕ) → Covers n (isVote (now forms) (now learners) low high q) (votes .low) (votes .high))
+        × ((q : ℕ) → Covers n (isRival (now forms) (now learners) (now signers) (now tops) low high signer v q) («rival_votes» .low) («rival_votes» .high))))))))) ⌝ }
     ensures { λ r. ⌜ r ≡ isBarred (now (forms .entry)) (now (learners .entry)) (now (signers .entry)) (now (tops .entry)) n low high signer v b ⌝ }
 {
     if !has_learner(among, b) {
         return false;
     }
-    let p = peaks(forms, learners, tops, n, low, high, b);
+    let p = peaks(forms, learners, tops, n, low, high, b, votes);
     is_barred(
         forms,
         learners,
@@ -255,10 +260,12 @@ fn bars<'a>(
         v,
         p.best,
         p.other,
+        rival_votes,
     )
 }
 
-// The learners that are barred: for each of them there is an opposed place.
+// The learners that are barred: for each of them there is an opposed place. `votes` has the places of all votes, `rival_votes` of those that are of this
+// signer and of another value than v.
 pub fn opposing<'a>(
     forms: &'a [u8],
     learners: &'a [u8],
@@ -270,12 +277,30 @@ pub fn opposing<'a>(
     high: u64,
     signer: u8,
     v: u64,
+    votes: Places,
+    rival_votes: Places,
 ) -> u8
-    requires { ⌜ (l ≤ 8) × ((n ≤ 128) × (Whole (now forms) × (Whole (now learners) × (Whole (now signers) × Whole (now tops))))) ⌝ }
+    requires { ⌜ (l ≤ 8) × ((n ≤ 128) × (Whole (now forms) × (Whole (now learners) × (Whole (now signers) × (Whole (now tops)
+        × (((b : ℕ) → Covers n (isVote (now forms) (now learners) low high b) (votes .low) (votes .high))
+        × ((b : ℕ) → Covers n (isRival (now forms) (now learners) (now signers) (now tops) low high signer v b) («rival_votes» .low) («rival_votes» .high)))))))) ⌝ }
     ensures { λ r. ⌜ ((q : ℕ) → has r q
         ≡ any (λ b. isBarred (now (forms .entry)) (now (learners .entry)) (now (signers .entry)) (now (tops .entry)) n low high signer v b && eqb b q) (below l)) ⌝ }
 {
-    let among = rivals(forms, learners, signers, tops, n, low, high, signer, v);
+    let among = rivals(
+        forms,
+        learners,
+        signers,
+        tops,
+        n,
+        low,
+        high,
+        signer,
+        v,
+        rival_votes,
+    );
+    if among == 0 {
+        return 0;
+    }
     let mut mask: u8 = 0;
     let mut b: usize = 0;
     while b < l {
@@ -291,6 +316,8 @@ pub fn opposing<'a>(
             v,
             among,
             b,
+            votes,
+            rival_votes,
         );
         mask = with_learner(mask, b, on);
         b += 1;
@@ -330,9 +357,6 @@ fn is_stale<'a>(
     requires { ⌜ (a < 8) × ((l ≤ 8) × Sized (now counts) (now masks)) ⌝ }
     ensures { λ r. ⌜ ((m : ℕ) → r ≡ any (λ b. safeWithout (heldGraph acceptors m (now (counts .entry)) (now (masks .entry))) a b (has caught) && has against b) (below l)) ⌝ }
 {
-    if against == 0 {
-        return false;
-    }
     let mut found = false;
     let mut b: usize = 0;
     while b < l {
@@ -342,7 +366,15 @@ fn is_stale<'a>(
     found
 }
 
-// The first k learners for which there is none: a 1b is fresh for them.
+// The first k learners.
+fn first_learners(k: usize) -> u8
+    requires { ⌜ k ≤ 8 ⌝ }
+    ensures { λ r. ⌜ ((q : ℕ) → has r q ≡ ltb q k) ⌝ }
+{
+    ((1u32 << k) - 1) as u8
+}
+
+// The first k learners for which there is none: a 1b is fresh for them. Most often no learner is barred, and then it is fresh for all.
 pub fn fresh_for<'a>(
     counts: &'a [u8],
     masks: &'a [Mask],
@@ -356,6 +388,9 @@ pub fn fresh_for<'a>(
     ensures { λ r. ⌜ ((m q : ℕ) → has r q
         ≡ any (λ a. not (any (λ b. safeWithout (heldGraph acceptors m (now (counts .entry)) (now (masks .entry))) a b (has caught) && has against b) (below l)) && eqb a q) (below k)) ⌝ }
 {
+    if against == 0 {
+        return first_learners(k);
+    }
     let mut mask: u8 = 0;
     let mut a: usize = 0;
     while a < k {
@@ -366,7 +401,7 @@ pub fn fresh_for<'a>(
     mask
 }
 
-// The learners for which the 1b at place j is fresh, if it is in the set and of this ballot. Most places fail the first test.
+// The learners for which the 1b at place j is fresh, if it is in the set and of this ballot.
 fn fresh_at<'a>(
     forms: &'a [u8],
     fresh: &'a [u8],
@@ -403,6 +438,7 @@ fn put_backer(sets: &mut [Mask], k: usize, to: u8, p: u8)
 }
 
 // For each of the first k learners, the signers of the 1bs of this ballot that are fresh for it, in the set and among the first n places.
+// The walk has the places of all these 1bs.
 fn backers<'a>(
     forms: &'a [u8],
     fresh: &'a [u8],
@@ -413,17 +449,19 @@ fn backers<'a>(
     low: u64,
     high: u64,
     ballot: u64,
+    walk: Places,
 ) -> [Mask; 8]
-    requires { ⌜ (k ≤ 8) × ((n ≤ 128) × (Whole (now forms) × (Whole (now fresh) × (Whole (now tops) × Whole (now signers))))) ⌝ }
+    requires { ⌜ (k ≤ 8) × ((n ≤ 128) × (Whole (now forms) × (Whole (now fresh) × (Whole (now tops) × (Whole (now signers)
+        × ((a : ℕ) → Covers n (isBacker (now forms) (now fresh) (now tops) low high a ballot) (walk .low) (walk .high))))))) ⌝ }
     ensures { λ r. ⌜ (length r ≡ 8) × ((a p : ℕ) → a < k → p < 32 → has (getD r a 0) p
         ≡ backedBy (now (forms .entry)) (now (fresh .entry)) (now (tops .entry)) (now (signers .entry)) n low high ballot a p) ⌝ }
 {
     let mut sets = [0u32; 8];
-    let mut j: usize = 0;
+    let mut j: usize = next_in(walk.low, walk.high, 0, n);
     while j < n {
         let to = fresh_at(forms, fresh, tops, low, high, ballot, j);
         put_backer(&mut sets, k, to, signers[j]);
-        j += 1;
+        j = next_in(walk.low, walk.high, j + 1, n);
     }
     sets
 }
@@ -442,12 +480,14 @@ pub fn learners_for<'a>(
     low: u64,
     high: u64,
     ballot: u64,
+    walk: Places,
 ) -> u8
-    requires { ⌜ (acceptors ≤ 32) × (Sized (now counts) (now masks) × ((k ≤ 8) × ((n ≤ 128) × (Whole (now forms) × (Whole (now fresh) × (Whole (now tops) × Whole (now signers))))))) ⌝ }
+    requires { ⌜ (acceptors ≤ 32) × (Sized (now counts) (now masks) × ((k ≤ 8) × ((n ≤ 128) × (Whole (now forms) × (Whole (now fresh) × (Whole (now tops) × (Whole (now signers)
+        × ((a : ℕ) → Covers n (isBacker (now forms) (now fresh) (now tops) low high a ballot) (walk .low) (walk .high))))))))) ⌝ }
     ensures { λ r. ⌜ ((m q : ℕ) → has r q ≡ any (λ a. isQuorum (heldGraph acceptors m (now (counts .entry)) (now (masks .entry))) a
         (backedBy (now (forms .entry)) (now (fresh .entry)) (now (tops .entry)) (now (signers .entry)) n low high ballot a) && eqb a q) (below k)) ⌝ }
 {
-    let sets = backers(forms, fresh, tops, signers, k, n, low, high, ballot);
+    let sets = backers(forms, fresh, tops, signers, k, n, low, high, ballot, walk);
     let mut mask: u8 = 0;
     let mut a: usize = 0;
     while a < k {

@@ -26,3 +26,10 @@ pub struct Peaks {
     pub best: u64,
     pub other: u64,
 }
+
+// The names of the places, with 255 for none, and the places by the key of their ids.
+pub struct NameIndex {
+    pub names: [u8; 256],
+    pub key_low: [u64; 128],
+    pub key_high: [u64; 128],
+}

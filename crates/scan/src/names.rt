@@ -1,40 +1,71 @@
 // Names: messages are told apart by id, and an id held twice names the lower place. So the name of a place is the lowest one with its id, and
 // two messages are the same exactly if their names are. A previous message is compared by its name too; 255 is the name of none.
-
+// Ids are found by a key, so that few places are compared.
+use crate::NameIndex;
+use crate::sets::next_in;
+use crate::sets::put_place;
+use base::size;
 ghost use mathlib.Core.Path.{_≡_};
 ghost use Prim.Native.Nat.{_+_, _*_, _≤_, _<_};
 ghost use lib.ListN.{length};
-ghost use Rattle.scan.specs.Arrays.{Lowest, Named};
+ghost use Rattle.scan.specs.Arrays.{Lowest, Named, idKey, IdsIndexed};
+
+pub fn id_key(ids: &[u8], at: usize) -> usize
+    ensures { λ r. ⌜ r ≡ idKey (now (ids .entry)) at ⌝ }
+{
+    if ids.len() <= at {
+        return 0;
+    }
+    size(ids[at]) & 127
+}
 
 // The lowest of the first n places with this id, or n.
-pub fn name_of(ids: &[u8], n: usize, id: &[u8]) -> usize
-    requires { ⌜ (n ≤ 128) × (length (now ids) ≡ 4096) ⌝ }
+pub fn name_of<'a>(
+    ids: &'a [u8],
+    n: usize,
+    id: &'a [u8],
+    key_low: &'a [u64],
+    key_high: &'a [u64],
+) -> usize
+    requires { ⌜ (n ≤ 128) × ((length (now ids) ≡ 4096) × ((length (now «key_low») ≡ 128) × ((length (now «key_high») ≡ 128)
+        × IdsIndexed (now ids) n (now «key_low») (now «key_high»)))) ⌝ }
     ensures { λ r. ⌜ Lowest (now (ids .entry)) n (now (id .entry)) r ⌝ }
 {
-    let mut i: usize = 0;
+    let k = id_key(id, 0);
+    let low = key_low[k];
+    let high = key_high[k];
+    let mut i = next_in(low, high, 0, n);
     while i < n {
         let at = 32 * i;
         if check::same(&ids[at..at + 32], id) {
             return i;
         }
-        i += 1;
+        i = next_in(low, high, i + 1, n);
     }
     n
 }
 
-// The names of the first n places.
-pub fn names_of(ids: &[u8], n: usize) -> [u8; 256]
+// The names of the first n places, and their ids by key.
+pub fn names_of(ids: &[u8], n: usize) -> NameIndex
     requires { ⌜ (n ≤ 128) × (length (now ids) ≡ 4096) ⌝ }
-    ensures { λ r. ⌜ (length r ≡ 256) × Named (now (ids .entry)) n r ⌝ }
+    ensures { λ r. ⌜ (length (r .names) ≡ 256) × (Named (now (ids .entry)) n (r .names) × IdsIndexed (now (ids .entry)) n (r .«key_low») (r .«key_high»)) ⌝ }
 {
     let mut names = [0u8; 256];
     names[255] = 255;
+    let mut key_low = [0u64; 128];
+    let mut key_high = [0u64; 128];
     let mut i: usize = 0;
     while i < n {
         let at = 32 * i;
-        let k = name_of(ids, i, &ids[at..at + 32]);
-        names[i] = k as u8;
+        let name = name_of(ids, i, &ids[at..at + 32], &key_low, &key_high);
+        names[i] = name as u8;
+        let k = id_key(ids, at);
+        put_place(&mut key_low, &mut key_high, k, i);
         i += 1;
     }
-    names
+    NameIndex {
+        names,
+        key_low,
+        key_high,
+    }
 }

@@ -1,11 +1,13 @@
 // Sets as bits: places in two words, acceptors and learners in a mask.
 use crate::Places;
 ghost use mathlib.Core.Path.{_≡_};
-ghost use mathlib.Core.Bool.{_&&_, _||_};
-ghost use Prim.Native.Nat.{ℕ, _<_, max};
-ghost use lib.Dec.{eqb};
+ghost use mathlib.Core.Bool.{false, _&&_, _||_};
+ghost use Prim.Native.Nat.{ℕ, _≤_, _<_, min, max};
+ghost use lib.Dec.{T, eqb};
+ghost use lib.ListN.{length, getD};
 ghost use Rattle.base.specs.Sets.{has};
 ghost use Rattle.scan.specs.PlaceSets.{inSet, meets};
+ghost use Rattle.scan.specs.Arrays.{Grown};
 
 pub fn has_place(low: u64, high: u64, j: usize) -> bool
     requires { ⌜ j < 128 ⌝ }
@@ -44,6 +46,51 @@ pub fn meet(low: u64, high: u64, other_low: u64, other_high: u64) -> bool
     ensures { λ r. ⌜ r ≡ meets low high «other_low» «other_high» ⌝ }
 {
     (low & other_low != 0) | (high & other_high != 0)
+}
+
+// The places that two sets have in common.
+pub fn common(low: u64, high: u64, other_low: u64, other_high: u64) -> Places
+    ensures { λ r. ⌜ ((q : ℕ) → q < 128 → inSet (r .low) (r .high) q ≡ (inSet low high q && inSet «other_low» «other_high» q)) ⌝ }
+{
+    Places {
+        low: low & other_low,
+        high: high & other_high,
+    }
+}
+
+// Place j put into the set of key k.
+pub fn put_place(low: &mut [u64], high: &mut [u64], k: usize, j: usize)
+    requires { ⌜ (j < 128) × ((k < length (now low)) × (k < length (now high))) ⌝ }
+    ensures { λ _. ⌜ Grown (now (low .entry)) (now (high .entry)) (now (low .exit)) (now (high .exit)) × (T (inSet (getD (now (low .exit)) k 0) (getD (now (high .exit)) k 0) j)
+        × ((length (now (low .exit)) ≡ length (now (low .entry))) × (length (now (high .exit)) ≡ length (now (high .entry))))) ⌝ }
+{
+    let s = with_place(low[k], high[k], j, true);
+    low[k] = s.low;
+    high[k] = s.high;
+}
+
+fn smaller(x: usize, y: usize) -> usize
+    ensures { λ r. ⌜ r ≡ min x y ⌝ }
+{
+    if x < y { x } else { y }
+}
+
+// The first place of the set from j on, or n: none is in the set that it passes over.
+pub fn next_in(low: u64, high: u64, j: usize, n: usize) -> usize
+    requires { ⌜ (j ≤ n) × (n ≤ 128) ⌝ }
+    ensures { λ r. ⌜ (j ≤ r) × ((r ≤ n) × ((q : ℕ) → j ≤ q → q < r → inSet low high q ≡ false)) ⌝ }
+{
+    if 128 <= j {
+        return n;
+    }
+    if 64 <= j {
+        return smaller(j + u64::trailing_zeros(high >> (j - 64)) as usize, n);
+    }
+    let k = j + u64::trailing_zeros(low >> j) as usize;
+    if k < 64 {
+        return smaller(k, n);
+    }
+    smaller(64 + u64::trailing_zeros(high) as usize, n)
 }
 
 // The mask with acceptor p, where `on`. A signer that no mask can hold is in none.

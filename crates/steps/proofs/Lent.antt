@@ -1,6 +1,7 @@
 -- The tests over lent arrays are those of the round, and what the loops that work them out need.
 use mathlib.Core.Path.{_≡_, refl, sym, ap, subst, _∙_}
 use mathlib.Core.Bool.{Bool, true, false, not, _&&_, _||_}
+use mathlib.Core.Logic.{_≢_}
 use mathlib.Core.Option.{Option, none, some}
 use mathlib.Core.List.{List, [], _∷_, _++_, map, map-append}
 use Prim.Native.Nat.{ℕ, zero, suc, _+_, _-_, _*_, _≤_, _<_}
@@ -10,6 +11,7 @@ use native.Mathlib.Decide.{ℕ-discrete}
 use native.Mathlib.Omega.{arith}
 use lib.Dec.{T, eqb, ltb, leb}
 use lib.ListN.{length, getD}
+use borrow.Author.Tests.{ne-eqb}
 use Rattle.base.specs.Tests.{_∈_, all, below}
 use Rattle.base.specs.Bytes.{part}
 use Rattle.base.proofs.Tests.{all-out, map-out}
@@ -73,6 +75,11 @@ same-step a b i j n k h ha hb =
     let u : i + (k + 1) ≡ suc (i + k) = omega arith in
     let v : j + (k + 1) ≡ suc (j + k) = omega arith in
     rw (e, u, v, part-suc (n - (k + 1)) a (i + k) (omega arith), part-suc (n - (k + 1)) b (j + k) (omega arith))
+
+-- they differ where their first bytes do
+pub first-differs : (a b : List ℕ) (i j : ℕ) → i + 32 ≤ length a → j + 32 ≤ length b → getD a i 0 ≢ getD b j 0 → sameId (part 32 a i) (part 32 b j) ≡ false
+unfolding sameId
+first-differs a b i j ha hb d = rw (part-suc 31 a i (omega arith), part-suc 31 b j (omega arith)) (simp (ne-eqb (getD a i 0) (getD b j 0) d))
 
 -- ---- the least number that passes
 module _ (f : ℕ → Bool) where

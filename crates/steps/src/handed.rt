@@ -1,6 +1,17 @@
 // Row 17 of a round handed in: whether its counts and places lie in their tables. What is not in use is not read.
 use base::size;
-use round::Round;
+use roundbytes::COUNTS_AT;
+use roundbytes::HELD_AT;
+use roundbytes::KINDS_AT;
+use roundbytes::KNOWN_AT;
+use roundbytes::LAST_AT;
+use roundbytes::LIST_COUNTS_AT;
+use roundbytes::MASKS_AT;
+use roundbytes::OWN_AT;
+use roundbytes::PREVIOUS_AT;
+use roundbytes::REFERENCES_AT;
+use roundbytes::SIGNERS_AT;
+use roundbytes::word16;
 ghost use mathlib.Core.Path.{_≡_};
 ghost use mathlib.Core.Bool.{not, _||_};
 ghost use Prim.Native.Nat.{ℕ, _+_, _*_, _≤_, _<_};
@@ -10,6 +21,7 @@ ghost use Rattle.base.specs.Tests.{all, below};
 ghost use Rattle.base.specs.Bytes.{part};
 ghost use Rattle.graph.specs.Held.{triangle};
 ghost use Rattle.round.specs.Handed.{fits};
+ghost use Rattle.roundbytes.specs.Layout.{roundLen, roundIn};
 ghost use Rattle.steps.specs.Lent.{listFitsIn, graphFitsIn, placeFitsIn, messageFitsIn};
 
 // Whether list k of a graph has at most eight masks, where it is in use. `pairs` is how many pairs of learners there are.
@@ -150,30 +162,29 @@ fn messages_fit<'a>(
 }
 
 // Whether a round handed in can be one.
-pub fn fits(round: Round) -> bool
-    ensures { λ r. ⌜ r ≡ fits round ⌝ }
+pub fn fits(s: &[u8]) -> bool
+    requires { ⌜ roundLen ≤ length (now s) ⌝ }
+    ensures { λ r. ⌜ r ≡ fits (roundIn (now (s .entry))) ⌝ }
 {
-    if !graph_fits(
-        &round.graph.counts,
-        round.graph.acceptors,
-        round.graph.learners,
-    ) {
+    let acceptors = s[0];
+    let held = s[HELD_AT];
+    if !graph_fits(&s[LIST_COUNTS_AT..MASKS_AT], acceptors, s[1]) {
         return false;
     }
-    if !own_fits(round.own, round.graph.acceptors) {
+    if !own_fits(word16(s, OWN_AT), acceptors) {
         return false;
     }
-    if 128 < round.held {
+    if 128 < held {
         return false;
     }
-    if !place_fits(round.held, round.last) {
+    if !place_fits(held, s[LAST_AT]) {
         return false;
     }
     messages_fit(
-        round.held,
-        &round.kinds,
-        &round.counts,
-        &round.previous,
-        &round.references,
+        held,
+        &s[KINDS_AT..SIGNERS_AT],
+        &s[COUNTS_AT..REFERENCES_AT],
+        &s[PREVIOUS_AT..COUNTS_AT],
+        &s[REFERENCES_AT..KNOWN_AT],
     )
 }

@@ -15,8 +15,8 @@ pub enum Found {
     Nothing,
 }
 
-// Whether the id in a from i on is the one in b from j on. Ids are digests, so two that differ mostly do so in the first byte.
-pub fn same_id<'a>(a: &'a [u8], i: usize, b: &'a [u8], j: usize) -> bool
+// Whether the id in a from i on is the one in b from j on, byte by byte.
+fn same_bytes<'a>(a: &'a [u8], i: usize, b: &'a [u8], j: usize) -> bool
     requires { ⌜ (i + 32 ≤ length (now a)) × (j + 32 ≤ length (now b)) ⌝ }
     ensures { λ r. ⌜ r ≡ sameId (part 32 (now (a .entry)) i) (part 32 (now (b .entry)) j) ⌝ }
 {
@@ -28,6 +28,17 @@ pub fn same_id<'a>(a: &'a [u8], i: usize, b: &'a [u8], j: usize) -> bool
         k += 1;
     }
     true
+}
+
+// The same. Ids are digests, so two that differ mostly do so in the first byte, and no loop is begun.
+pub fn same_id<'a>(a: &'a [u8], i: usize, b: &'a [u8], j: usize) -> bool
+    requires { ⌜ (i + 32 ≤ length (now a)) × (j + 32 ≤ length (now b)) ⌝ }
+    ensures { λ r. ⌜ r ≡ sameId (part 32 (now (a .entry)) i) (part 32 (now (b .entry)) j) ⌝ }
+{
+    if a[i] != b[j] {
+        return false;
+    }
+    same_bytes(a, i, b, j)
 }
 
 // The place that the id in `bytes` from `at` on names: the lowest that has it.

@@ -1,9 +1,7 @@
 use mathlib.Core.Path.{ap, sym, _∙_}
 use lib.ListN.{length}
 use borrow.Author.Tests.{lt-ltb, le-ltb}
-use Rattle.round.specs.declared.Round.{Round}
 use Rattle.round.specs.declared.Report.{Report}
-use Rattle.round.specs.Report.{reported}
 use Rattle.capi.specs.Round.{reportNumber, reportedTo}
 use borrow.Author.Needs.{needs}
 use Rattle.capi.proofs.round_calls.hpaxos_report.Statement.{statement}
@@ -26,11 +24,8 @@ returns-2 c =
     let short = lt-ltb (length (c .before .before .before .before .before .args .out .now)) 17 (c .before .if2 .taken) in
     (c .number2 .ensures ∙ simp (whole, short), simp (whole, short))
 
-decode-requires : tie.Need-decode-requires
-decode-requires c κs = search needs
-
-report-requires : tie.Need-report-requires
-report-requires c κs = search needs
+report-in-requires : tie.Need-report-in-requires
+report-in-requires c κs = search needs
 
 enum-told : tie.Need-enum-told
 enum-told c = search needs
@@ -58,11 +53,10 @@ number-requires-3 c κs = search needs
 
 returns-3 : tie.Need-returns-3
 returns-3 c =
-    let a = c .before .before .before .before .before .before .before .before .before .before .args in
-    let whole = le-ltb (length (a .round .now)) 23734 (c .before .before .before .before .before .before .before .if1 .left) in
-    let room = le-ltb (length (a .out .now)) 17 (c .before .before .before .before .before .before .if2 .left) in
-    let same = c .before .before .before .before .report .ensures ∙ ap (λ (x : Round). reported x (a .learner)) (c .before .before .before .before .before .decode .ensures) in
-    let told = sym (c .before .before .e .given .1) ∙ same in
+    let a = c .before .before .before .before .before .before .before .before .before .args in
+    let whole = le-ltb (length (a .round .now)) 23734 (c .before .before .before .before .before .before .if1 .left) in
+    let room = le-ltb (length (a .out .now)) 17 (c .before .before .before .before .before .if2 .left) in
+    let told = sym (c .before .before .e .given .1) ∙ c .before .before .before .before .report-in .ensures in
     (c .number3 .ensures ∙ ap reportNumber told ∙ sym (simp (whole, room)), ap (λ (x : Report). reportedTo x (a .out .now)) told ∙ sym (simp (whole, room)))
 
 same-length : tie.Need-same-length
@@ -70,11 +64,10 @@ same-length c = search needs
 
 returns-4 : tie.Need-returns-4
 returns-4 c =
-    let a = c .before .before .before .before .before .before .before .before .before .before .before .before .args in
-    let whole = le-ltb (length (a .round .now)) 23734 (c .before .before .before .before .before .before .before .before .before .if1 .left) in
-    let room = le-ltb (length (a .out .now)) 17 (c .before .before .before .before .before .before .before .before .if2 .left) in
-    let same = c .before .before .before .before .before .before .report .ensures ∙ ap (λ (x : Round). reported x (a .learner)) (c .before .before .before .before .before .before .before .decode .ensures) in
-    let told = sym (c .before .before .before .before .enum-told .given .1) ∙ same in
+    let a = c .before .before .before .before .before .before .before .before .before .before .before .args in
+    let whole = le-ltb (length (a .round .now)) 23734 (c .before .before .before .before .before .before .before .before .if1 .left) in
+    let room = le-ltb (length (a .out .now)) 17 (c .before .before .before .before .before .before .before .if2 .left) in
+    let told = sym (c .before .before .before .before .enum-told .given .1) ∙ c .before .before .before .before .before .before .report-in .ensures in
     (ap reportNumber told ∙ sym (simp (whole, room)), c .before .before .put-report .ensures ∙ ap (λ (x : Report). reportedTo x (a .out .now)) told ∙ sym (simp (whole, room)))
 
 same-length-2 : tie.Need-same-length-2
@@ -82,11 +75,10 @@ same-length-2 c = search needs
 
 returns-5 : tie.Need-returns-5
 returns-5 c =
-    let a = c .before .before .before .before .before .before .before .before .before .before .before .before .before .args in
-    let whole = le-ltb (length (a .round .now)) 23734 (c .before .before .before .before .before .before .before .before .before .before .if1 .left) in
-    let room = le-ltb (length (a .out .now)) 17 (c .before .before .before .before .before .before .before .before .before .if2 .left) in
-    let same = c .before .before .before .before .before .before .before .report .ensures ∙ ap (λ (x : Round). reported x (a .learner)) (c .before .before .before .before .before .before .before .before .decode .ensures) in
-    let told = sym (c .before .before .before .before .before .x .given .1) ∙ same in
+    let a = c .before .before .before .before .before .before .before .before .before .before .before .before .args in
+    let whole = le-ltb (length (a .round .now)) 23734 (c .before .before .before .before .before .before .before .before .before .if1 .left) in
+    let room = le-ltb (length (a .out .now)) 17 (c .before .before .before .before .before .before .before .before .if2 .left) in
+    let told = sym (c .before .before .before .before .before .x .given .1) ∙ c .before .before .before .before .before .before .before .report-in .ensures in
     (ap reportNumber told ∙ sym (simp (whole, room)), c .before .before .put-report2 .ensures ∙ ap (λ (x : Report). reportedTo x (a .out .now)) told ∙ sym (simp (whole, room)))
 
 same-length-3 : tie.Need-same-length-3
@@ -94,11 +86,10 @@ same-length-3 c = search needs
 
 returns-6 : tie.Need-returns-6
 returns-6 c =
-    let a = c .before .before .before .before .before .before .before .before .before .before .before .before .before .args in
-    let whole = le-ltb (length (a .round .now)) 23734 (c .before .before .before .before .before .before .before .before .before .before .if1 .left) in
-    let room = le-ltb (length (a .out .now)) 17 (c .before .before .before .before .before .before .before .before .before .if2 .left) in
-    let same = c .before .before .before .before .before .before .before .report .ensures ∙ ap (λ (x : Round). reported x (a .learner)) (c .before .before .before .before .before .before .before .before .decode .ensures) in
-    let told = sym (c .before .before .before .before .before .x2 .given .1) ∙ same in
+    let a = c .before .before .before .before .before .before .before .before .before .before .before .before .args in
+    let whole = le-ltb (length (a .round .now)) 23734 (c .before .before .before .before .before .before .before .before .before .if1 .left) in
+    let room = le-ltb (length (a .out .now)) 17 (c .before .before .before .before .before .before .before .before .if2 .left) in
+    let told = sym (c .before .before .before .before .before .x2 .given .1) ∙ c .before .before .before .before .before .before .before .report-in .ensures in
     (ap reportNumber told ∙ sym (simp (whole, room)), c .before .before .put-report3 .ensures ∙ ap (λ (x : Report). reportedTo x (a .out .now)) told ∙ sym (simp (whole, room)))
 
 pub hpaxos-report-spec : {M : Type 1} → statement M
@@ -109,8 +100,7 @@ hpaxos-report-spec =
     returns
     number-requires-2
     returns-2
-    decode-requires
-    report-requires
+    report-in-requires
     enum-told
     put-report-requires
     enum-known-x

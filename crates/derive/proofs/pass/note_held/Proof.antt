@@ -20,14 +20,14 @@ shared-slice-read-if1 c = search needs
 with-place-requires : tie.Need-with-place-requires
 with-place-requires c κs = search needs
 
-mul-t35 : tie.Need-mul-t35
-mul-t35 c = search needs
+mul-t37 : tie.Need-mul-t37
+mul-t37 c = search needs
 
-shared-slice-read-t37 : tie.Need-shared-slice-read-t37
-shared-slice-read-t37 c = search needs
+shared-slice-read-t39 : tie.Need-shared-slice-read-t39
+shared-slice-read-t39 c = search needs
 
 returns : tie.Need-returns
-returns c = let a = c .before .before .before .before .before .before .before .before .before .before .before .before .before .before .before .before .before .before .before .before .before .args in let pre = c .before .before .before .before .before .before .before .before .before .before .before .before .before .before .before .before .before .before .before .before .before .pre in let fit = pre .1 .0 in λ ids named kn. offer-noted (heldGraph (a .acceptors) (a .l) (a .lists .now) (a .masks .now)) ids (a .kinds .now) (a .signers .now) (a .ballots .now) (a .previous .now) (a .counts .now) (a .references .now) (a .n) fit (a .p) (pre .0) (eq-eqb (getD (a .kinds .now) (a .p) 0) 1 (c .before .before .if1 .taken))
+returns c = let a = c .before .before .before .before .before .before .before .before .before .before .before .before .before .before .before .before .before .before .before .before .before .before .before .args in let pre = c .before .before .before .before .before .before .before .before .before .before .before .before .before .before .before .before .before .before .before .before .before .before .before .pre in let fit = pre .1 .0 in λ ids named kn. offer-noted (heldGraph (a .acceptors) (a .l) (a .lists .now) (a .masks .now)) ids (a .kinds .now) (a .signers .now) (a .ballots .now) (a .previous .now) (a .counts .now) (a .references .now) (a .n) fit (a .p) (pre .0) (eq-eqb (getD (a .kinds .now) (a .p) 0) 1 (c .before .before .if1 .taken))
     (c .before .with-place .result .low) (c .before .with-place .result .high) (c .before .with-place .ensures)
 
 mul-from : tie.Need-mul-from
@@ -55,19 +55,19 @@ part-step-start : tie.Need-part-step-start
 part-step-start c = search needs
 
 part-step-end : tie.Need-part-step-end
-part-step-end c = let a = c .before .before .before .before .before .before .before .before .before .before .before .before .before .before .before .before .before .before .before .before .before .before .before .args in let pre = c .before .before .before .before .before .before .before .before .before .before .before .before .before .before .before .before .before .before .before .before .before .before .before .pre in let fit = pre .1 .0 in omega (arith, fit .count (a .p) (pre .0), fit .held, c .before .before .size .ensures .0)
+part-step-end c = let a = c .before .before .before .before .before .before .before .before .before .before .before .before .before .before .before .before .before .before .before .before .before .before .before .before .before .args in let pre = c .before .before .before .before .before .before .before .before .before .before .before .before .before .before .before .before .before .before .before .before .before .before .before .before .before .pre in let fit = pre .1 .0 in omega (arith, fit .count (a .p) (pre .0), fit .held, c .before .before .size .ensures .0)
 
 shared-slice-read-step : tie.Need-shared-slice-read-step
-shared-slice-read-step c = search needs
+shared-slice-read-step c = let pre = c .before .before .before .before .before .before .before .before .before .before .before .before .before .before .before .before .before .before .before .before .before .before .before .before .before .before .before .pre in omega (arith, pre .0, pre .1 .0 .held, pre .1 .1 .1 .1 .1 .0 .signersFit)
 
 shared-slice-read-step-2 : tie.Need-shared-slice-read-step-2
-shared-slice-read-step-2 c = search needs
+shared-slice-read-step-2 c = let pre = c .before .before .before .before .before .before .before .before .before .before .before .before .before .before .before .before .before .before .before .before .before .before .before .before .before .before .before .before .pre in omega (arith, pre .0, pre .1 .0 .held, pre .1 .1 .1 .1 .1 .0 .namesFit)
 
 shared-slice-read-step-3 : tie.Need-shared-slice-read-step-3
-shared-slice-read-step-3 c = search needs
+shared-slice-read-step-3 c = omega (arith, c .before .before .before .before .size2 .ensures .1, c .before .before .before .before .before .before .before .before .before .before .before .before .before .before .before .before .before .before .before .before .before .before .before .before .before .before .before .before .before .pre .1 .1 .1 .1 .1 .0 .namesFit)
 
 step-requires : tie.Need-step-requires
-step-requires c κs = let a = c .before .before .before .before .before .before .before .before .before .before .before .before .before .before .before .before .before .before .before .before .before .before .before .before .before .before .before .args in let pre = c .before .before .before .before .before .before .before .before .before .before .before .before .before .before .before .before .before .before .before .before .before .before .before .before .before .before .before .pre in let fit = pre .1 .0 in let r = pre .1 .1 .1 .1 .1 .0 in let s = c .before .before .before .before .before .before .size in let few = fit .held in let low = pre .0 in (
+step-requires c κs = let a = c .before .before .before .before .before .before .before .before .before .before .before .before .before .before .before .before .before .before .before .before .before .before .before .before .before .before .before .before .before .args in let pre = c .before .before .before .before .before .before .before .before .before .before .before .before .before .before .before .before .before .before .before .before .before .before .before .before .before .before .before .before .before .pre in let fit = pre .1 .0 in let r = pre .1 .1 .1 .1 .1 .0 in let s = c .before .before .before .before .before .before .size in let few = fit .held in let low = pre .0 in (
   record {
     acceptorsFit = r .acceptorsFit;
     learnersFit = r .learnersFit;
@@ -91,10 +91,10 @@ step-requires c κs = let a = c .before .before .before .before .before .before 
 )
 
 with-place-requires-2 : tie.Need-with-place-requires-2
-with-place-requires-2 c κs = let a = c .before .before .before .before .before .before .before .before .before .before .before .before .before .before .before .before .before .before .before .before .before .before .before .before .before .before .before .before .before .args in let pre = c .before .before .before .before .before .before .before .before .before .before .before .before .before .before .before .before .before .before .before .before .before .before .before .before .before .before .before .before .before .pre in let fit = pre .1 .0 in let few = fit .held in let low = pre .0 in omega arith
+with-place-requires-2 c κs = let a = c .before .before .before .before .before .before .before .before .before .before .before .before .before .before .before .before .before .before .before .before .before .before .before .before .before .before .before .before .before .before .before .args in let pre = c .before .before .before .before .before .before .before .before .before .before .before .before .before .before .before .before .before .before .before .before .before .before .before .before .before .before .before .before .before .before .before .pre in let fit = pre .1 .0 in let few = fit .held in let low = pre .0 in omega arith
 
 returns-2 : tie.Need-returns-2
-returns-2 c = let a = c .before .before .before .before .before .before .before .before .before .before .before .before .before .before .before .before .before .before .before .before .before .before .before .before .before .before .before .before .before .before .before .args in let pre = c .before .before .before .before .before .before .before .before .before .before .before .before .before .before .before .before .before .before .before .before .before .before .before .before .before .before .before .before .before .before .before .pre in let fit = pre .1 .0 in let s = c .before .before .before .before .before .before .before .before .before .before .size in let at = c .before .before .before .before .before .before .before .before .size2 .result in let ey = c .before .before .before .before .before .before .before .before .size2 .ensures .0 in
+returns-2 c = let a = c .before .before .before .before .before .before .before .before .before .before .before .before .before .before .before .before .before .before .before .before .before .before .before .before .before .before .before .before .before .before .before .before .before .args in let pre = c .before .before .before .before .before .before .before .before .before .before .before .before .before .before .before .before .before .before .before .before .before .before .before .before .before .before .before .before .before .before .before .before .before .pre in let fit = pre .1 .0 in let s = c .before .before .before .before .before .before .before .before .before .before .size in let at = c .before .before .before .before .before .before .before .before .size2 .result in let ey = c .before .before .before .before .before .before .before .before .size2 .ensures .0 in
     λ ids named kn. held-noted (heldGraph (a .acceptors) (a .l) (a .lists .now) (a .masks .now)) ids (a .kinds .now) (a .signers .now) (a .ballots .now) (a .previous .now) (a .counts .now) (a .references .now) (a .n) fit (a .p) (pre .0) (ne-eqb (getD (a .kinds .now) (a .p) 0) 1 (c .before .before .before .before .before .before .before .before .before .before .before .before .if1 .left)) at ey (take (128 * a .p + s .result - 128 * a .p) (drop (128 * a .p) (a .references .now))) (lent-references (a .counts .now) (a .references .now) (a .p) (s .result) (s .ensures .0)) (c .before .before .before .step .result)
     (c .before .before .before .step .ensures (tableIn ids (a .kinds .now) (a .signers .now) (a .ballots .now) (a .previous .now) (a .counts .now) (a .references .now) (a .p)) (idIn ids (a .p)) (namedIn ids at) (length-tabulate (a .p) (recordIn ids (a .kinds .now) (a .signers .now) (a .ballots .now) (a .previous .now) (a .counts .now) (a .references .now))) kn
     (held-candidate (heldGraph (a .acceptors) (a .l) (a .lists .now) (a .masks .now)) ids (a .kinds .now) (a .signers .now) (a .ballots .now) (a .previous .now) (a .counts .now) (a .references .now) (a .n) fit (a .p) (pre .0) (ne-eqb (getD (a .kinds .now) (a .p) 0) 1 (c .before .before .before .before .before .before .before .before .before .before .before .before .if1 .left)) (a .names .now) named at ey (take (128 * a .p + s .result - 128 * a .p) (drop (128 * a .p) (a .references .now))) (lent-references (a .counts .now) (a .references .now) (a .p) (s .result) (s .ensures .0))))
@@ -106,8 +106,8 @@ note-held-spec =
     (tie.spec
     shared-slice-read-if1
     with-place-requires
-    mul-t35
-    shared-slice-read-t37
+    mul-t37
+    shared-slice-read-t39
     returns
     mul-from
     shared-slice-read-size

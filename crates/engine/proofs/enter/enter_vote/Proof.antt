@@ -1,87 +1,121 @@
-use mathlib.Core.Path.{_≡_, ap, sym, subst, _∙_}
+use mathlib.Core.Path.{_≡_, ap, sym, _∙_}
 use mathlib.Core.Option.{none, some}
 use Prim.Native.Nat.{ℕ}
-use lib.ListN.{length, take}
+use lib.ListN.{take}
+use Rattle.base.proofs.Bytes.{part-length}
 use Rattle.digest.specs.Sha256.{sha256}
 use Rattle.protocol.specs.Table.{says}
-use Rattle.round.specs.declared.Round.{Round}
 use Rattle.round.specs.Held.{placeOf}
-use Rattle.round.specs.Delivery.{returned}
 use Rattle.round.proofs.Fitting.{fits-out}
+use Rattle.roundbytes.specs.Layout.{roundIn}
 use Rattle.steps.specs.Lent.{placeIn, previousIn}
-use Rattle.engine.specs.Giving.{Answerable}
 use Rattle.steps.proofs.Lent.{place-of, found-at, found-nothing}
-use Rattle.engine.proofs.Entering.{back-answers, enters-back}
+use Rattle.engine.specs.Giving.{left}
+use Rattle.engine.proofs.Replying.{kept-on, kept-long}
+use Rattle.engine.proofs.Entering.{back-answers, back-masks, enters-back}
 use borrow.Author.Needs.{needs}
 use native.Mathlib.Omega.{arith}
 use Rattle.engine.proofs.enter.enter_vote.Statement.{statement}
 use Rattle.engine.proofs.enter.enter_vote.Tie as tie
 
+slice-read-size : tie.Need-slice-read-size
+slice-read-size c = search needs
+
 size-requires : tie.Need-size-requires
 size-requires c κs = search needs
 
-slice-aggregate-place-of : tie.Need-slice-aggregate-place-of
-slice-aggregate-place-of c = search needs
+sub-place-of : tie.Need-sub-place-of
+sub-place-of c = search needs
+
+part-place-of-start : tie.Need-part-place-of-start
+part-place-of-start c = search needs
+
+part-place-of-end : tie.Need-part-place-of-end
+part-place-of-end c = search needs
 
 place-of-requires : tie.Need-place-of-requires
 place-of-requires c κs =
-    let a = c .before .before .before .before .before .before .before .before .args in
-    let r = a .t1 in
-    let m = fits-out r (c .before .before .before .before .before .before .before .before .pre .0 .fit) .most in
-    let n = c .before .before .before .before .size .ensures .0 in
-    let s : length (r .ids) ≡ 4096 = search needs in
-    let u : length (a .t2) ≡ 32 = search needs in
-    (omega arith, (s, u))
+    let a = c .before .before .before .before .before .before .before .before .before .before .args in
+    let b = a .s .now in
+    let r = roundIn b in
+    let p = c .before .before .before .before .before .before .before .before .before .before .pre in
+    let n : c .before .before .size .result ≡ r .held = c .before .before .size .ensures .0 in
+    let m = fits-out r (p .1 .1 .0 .fit) .most in
+    let l = p .0 in
+    (omega arith, (part-length 4096 b 1462 (omega arith), p .1 .1 .1 .0))
 
 enum-known-p : tie.Need-enum-known-p
 enum-known-p c = search needs
 
 returned-requires : tie.Need-returned-requires
 returned-requires c κs =
-    let a = c .before .before .before .before .before .before .before .before .before .before .before .before .args in
-    let r = a .t1 in
-    let can = c .before .before .before .before .before .before .before .before .before .before .before .before .pre .0 in
-    let n = c .before .before .before .before .before .before .before .before .size .ensures .0 in
-    let p = c .before .p .given .0 .0 in
-    let at = found-at (r .ids) (c .before .before .before .before .before .before .before .before .size .result) (a .t2) (c .before .before .before .place-of .result) p (c .before .before .before .place-of .ensures) (c .before .p .given .1) in
-    let e : placeOf r (a .t2) ≡ some p = place-of r (a .t2) ∙ ap (λ (k : ℕ). placeIn (r .ids) k (a .t2)) (sym n) ∙ at .0 in let m = fits-out r (can .fit) .most in let k = at .1 in omega arith
+    let a = c .before .before .before .before .before .before .before .before .before .before .before .before .before .before .before .args in
+    let b = a .s .now in
+    let r = roundIn b in
+    let p = c .before .before .before .before .before .before .before .before .before .before .before .before .before .before .before .pre in
+    let n : c .before .before .before .before .before .before .before .size .result ≡ r .held = c .before .before .before .before .before .before .before .size .ensures .0 in
+    let k = c .before .before .p .given .0 .0 in
+    let at = found-at (r .ids) (c .before .before .before .before .before .before .before .size .result) (a .id .now) (c .before .before .before .before .place-of .result) k (c .before .before .before .before .place-of .ensures) (c .before .before .p .given .1) in
+    let m = fits-out r (p .1 .1 .0 .fit) .most in
+    let i = at .1 in
+    (p .0, omega arith)
 
 process-requires : tie.Need-process-requires
 process-requires c κs =
-    let a = c .before .before .before .before .before .before .before .before .before .before .before .before .before .before .args in
-    let r = a .t1 in
-    let can = c .before .before .before .before .before .before .before .before .before .before .before .before .before .before .pre .0 in
-    let n = c .before .before .before .before .before .before .before .before .before .before .size .ensures .0 in
-    let p = c .before .before .before .p .given .0 .0 in
-    let at = found-at (r .ids) (c .before .before .before .before .before .before .before .before .before .before .size .result) (a .t2) (c .before .before .before .before .before .place-of .result) p (c .before .before .before .before .before .place-of .ensures) (c .before .before .before .p .given .1) in
-    let e : placeOf r (a .t2) ≡ some p = place-of r (a .t2) ∙ ap (λ (k : ℕ). placeIn (r .ids) k (a .t2)) (sym n) ∙ at .0 in subst (λ (s : Round). Answerable s p (a .reply .now)) (sym (c .before .returned .ensures)) (back-answers r (a .t2) (a .reply .now) can p e)
+    let a = c .before .before .before .before .before .before .before .before .before .before .before .before .before .before .before .before .before .before .before .before .args in
+    let b = a .s .now in
+    let r = roundIn b in
+    let p = c .before .before .before .before .before .before .before .before .before .before .before .before .before .before .before .before .before .before .before .before .pre in
+    let n : c .before .before .before .before .before .before .before .before .before .before .before .before .size .result ≡ r .held = c .before .before .before .before .before .before .before .before .before .before .before .before .size .ensures .0 in
+    let k = c .before .before .before .before .before .before .before .p .given .0 .0 in
+    let at = found-at (r .ids) (c .before .before .before .before .before .before .before .before .before .before .before .before .size .result) (a .id .now) (c .before .before .before .before .before .before .before .before .before .place-of .result) k (c .before .before .before .before .before .before .before .before .before .place-of .ensures) (c .before .before .before .before .before .before .before .p .given .1) in
+    let e : placeOf r (a .id .now) ≡ some k = place-of r (a .id .now) ∙ ap (λ (k : ℕ). placeIn (r .ids) k (a .id .now)) (sym n) ∙ at .0 in
+    let t = c .before .before .before .before .returned .last .0 in
+    let g = c .before .before .before .before .returned .ensures in
+    (kept-long b t (g .1) (p .0), (back-masks r (roundIn t) k (a .masks .now) (g .0) (p .1 .0), back-answers r (a .id .now) (a .reply .now) (p .1 .1 .0) k e (roundIn t) (g .0)))
 
 enum-told : tie.Need-enum-told
 enum-told c = search needs
 
 add-vote-requires : tie.Need-add-vote-requires
 add-vote-requires c κs =
-    let a = c .before .before .before .before .before .before .before .before .before .before .before .before .args in
-    let r = a .t1 in
-    let can = c .before .before .before .before .before .before .before .before .before .before .before .before .pre .0 in
-    let n = c .before .before .before .before .before .before .before .before .size .ensures .0 in
-    let e : placeOf r (a .t2) ≡ none = place-of r (a .t2) ∙ ap (λ (k : ℕ). placeIn (r .ids) k (a .t2)) (sym n) ∙ found-nothing (r .ids) (c .before .before .before .before .before .before .before .before .size .result) (a .t2) (c .before .before .before .place-of .result) (c .before .before .before .place-of .ensures) (c .before .enum-told .given .1) in ((can, e), c .before .before .before .before .before .before .before .before .before .before .before .before .pre .1)
+    let a = c .before .before .before .before .before .before .before .before .before .before .before .before .before .before .before .args in
+    let b = a .s .now in
+    let r = roundIn b in
+    let p = c .before .before .before .before .before .before .before .before .before .before .before .before .before .before .before .pre in
+    let n : c .before .before .before .before .before .before .before .size .result ≡ r .held = c .before .before .before .before .before .before .before .size .ensures .0 in
+    let e : placeOf r (a .id .now) ≡ none =
+    place-of r (a .id .now) ∙ ap (λ (k : ℕ). placeIn (r .ids) k (a .id .now)) (sym n) ∙ found-nothing (r .ids) (c .before .before .before .before .before .before .before .size .result) (a .id .now) (c .before .before .before .before .place-of .result) (c .before .before .before .before .place-of .ensures) (c .before .before .enum-told .given .1) in
+    (p .0, (p .1 .0, ((p .1 .1 .0, e), p .1 .1 .1)))
 
 same-length : tie.Need-same-length
 same-length c = search needs
 
-returns : tie.Need-returns
-returns c =
-    let a = c .before .before .before .before .before .before .before .before .before .before .before .before .before .before .before .before .before .args in
-    let r = a .t1 in
-    let can = c .before .before .before .before .before .before .before .before .before .before .before .before .before .before .before .before .before .pre .0 in
-    let n = c .before .before .before .before .before .before .before .before .before .before .before .before .before .size .ensures .0 in
-    let p = c .before .before .before .before .before .before .p .given .0 .0 in
-    let at = found-at (r .ids) (c .before .before .before .before .before .before .before .before .before .before .before .before .before .size .result) (a .t2) (c .before .before .before .before .before .before .before .before .place-of .result) p (c .before .before .before .before .before .before .before .before .place-of .ensures) (c .before .before .before .before .before .before .p .given .1) in
-    let e : placeOf r (a .t2) ≡ some p = place-of r (a .t2) ∙ ap (λ (k : ℕ). placeIn (r .ids) k (a .t2)) (sym n) ∙ at .0 in enters-back sha256 r (c .before .before .before .before .returned .result) (a .t2) (says (a .t2) (a .signer) (previousIn (a .bytes .now) (a .previous)) (take (a .count) (a .places .now))) p (c .before .before .process .result) (a .reply .now) (c .before .before .process .last .1 .1 .0) (c .before .before .before .before .returned .ensures) e (c .before .before .process .ensures)
-
 same-length-2 : tie.Need-same-length-2
 same-length-2 c = search needs
+
+returns : tie.Need-returns
+returns c =
+    let a = c .before .before .before .before .before .before .before .before .before .before .before .before .before .before .before .before .before .before .before .before .before .before .before .before .before .args in
+    let b = a .s .now in
+    let r = roundIn b in
+    let p = c .before .before .before .before .before .before .before .before .before .before .before .before .before .before .before .before .before .before .before .before .before .before .before .before .before .pre in
+    let n : c .before .before .before .before .before .before .before .before .before .before .before .before .before .before .before .before .before .size .result ≡ r .held = c .before .before .before .before .before .before .before .before .before .before .before .before .before .before .before .before .before .size .ensures .0 in
+    let k = c .before .before .before .before .before .before .before .before .before .before .before .before .p .given .0 .0 in
+    let at = found-at (r .ids) (c .before .before .before .before .before .before .before .before .before .before .before .before .before .before .before .before .before .size .result) (a .id .now) (c .before .before .before .before .before .before .before .before .before .before .before .before .before .before .place-of .result) k (c .before .before .before .before .before .before .before .before .before .before .before .before .before .before .place-of .ensures) (c .before .before .before .before .before .before .before .before .before .before .before .before .p .given .1) in
+    let e : placeOf r (a .id .now) ≡ some k = place-of r (a .id .now) ∙ ap (λ (k : ℕ). placeIn (r .ids) k (a .id .now)) (sym n) ∙ at .0 in
+    let t = c .before .before .before .before .before .before .before .before .before .returned .last .0 in
+    let g = c .before .before .before .before .before .before .before .before .before .returned .ensures in
+    let o = c .before .before .before .before .process in (
+      enters-back sha256 r (roundIn t) (a .id .now) (says (a .id .now) (a .signer) (previousIn (a .bytes .now) (a .previous)) (take (a .count) (a .places .now))) k (left (o .result) (o .last .0)) (a .reply .now) (o .last .1 .1 .1 .0) (g .0) e (o .ensures .0),
+      kept-on b t (o .last .0) (g .1) (o .ensures .1),
+    )
+
+same-length-3 : tie.Need-same-length-3
+same-length-3 c = search needs
+
+same-length-4 : tie.Need-same-length-4
+same-length-4 c = search needs
 
 returns-2 : tie.Need-returns-2
 returns-2 c = search needs
@@ -90,8 +124,11 @@ pub enter-vote-spec : {M : Type 1} → statement M
 enter-vote-spec =
     tie.close
     (tie.spec
+    slice-read-size
     size-requires
-    slice-aggregate-place-of
+    sub-place-of
+    part-place-of-start
+    part-place-of-end
     place-of-requires
     enum-known-p
     returned-requires
@@ -99,6 +136,8 @@ enter-vote-spec =
     enum-told
     add-vote-requires
     same-length
-    returns
     same-length-2
+    returns
+    same-length-3
+    same-length-4
     returns-2)

@@ -1,11 +1,11 @@
-use mathlib.Core.Path.{_≡_, ap, _∙_}
+use mathlib.Core.Path.{_≡_, sym, ap, _∙_, subst}
 use mathlib.Core.Bool.{not, _&&_}
 use Prim.Native.Nat.{ℕ, _≤_, _-_}
-use lib.Dec.{eqb}
+use lib.Dec.{T, eqb, ltb}
 use Rattle.base.specs.Tests.{any, below}
 use Rattle.base.specs.Sets.{has}
-use Rattle.scan.proofs.Loops.{put-again, any-done}
-use Rattle.scan.proofs.Membership.{has-zero}
+use Rattle.scan.proofs.Loops.{put-again, any-done, any-none, any-at}
+use Rattle.scan.proofs.Membership.{and-off, and-on, has-zero}
 use Rattle.graph.specs.LearnerGraph.{safeWithout}
 use Rattle.graph.specs.Held.{heldGraph}
 use borrow.Author.Needs.{needs}
@@ -18,6 +18,12 @@ Inv-loop counts masks acceptors l k caught against mask₀ a₀ mask a = (a ≤ 
 
 abbrev μ-loop : tie.MeasureT-loop
 μ-loop counts masks acceptors l k caught against mask₀ a₀ mask a = k - a
+
+first-learners-requires : tie.Need-first-learners-requires Inv-loop μ-loop
+first-learners-requires c κs = search needs
+
+returns : tie.Need-returns Inv-loop μ-loop
+returns c = let a = c .before .before .before .before .args in λ m q. c .first-learners .ensures q ∙ sym (any-at (λ x. not (any (λ b. safeWithout (heldGraph (a .acceptors) m (a .counts .now) (a .masks .now)) x b (has (a .caught)) && has (a .against) b) (below (a .l)))) (a .k) q ∙ and-on (ltb q (a .k)) _ (ap not (any-none (λ b. safeWithout (heldGraph (a .acceptors) m (a .counts .now) (a .masks .now)) q b (has (a .caught)) && has (a .against) b) (a .l) (λ b l t. subst T (and-off (safeWithout (heldGraph (a .acceptors) m (a .counts .now) (a .masks .now)) q b (has (a .caught))) (has (a .against) b) (ap (λ (y : ℕ). has y b) (c .before .if1 .taken) ∙ has-zero b)) t))))
 
 loop-holds : tie.Need-loop-holds Inv-loop μ-loop
 unfolding any below
@@ -36,10 +42,10 @@ loop-less : tie.Need-loop-less Inv-loop μ-loop
 loop-less c = search needs
 
 loop-again : tie.Need-loop-again Inv-loop μ-loop
-loop-again c = let a = c .before .before .before .before .before .before .args in let l = c .before .before .before .loop in (omega arith, λ m q. put-again (λ x. not (any (λ b. safeWithout (heldGraph (a .acceptors) m (a .counts .now) (a .masks .now)) x b (has (a .caught)) && has (a .against) b) (below (a .l)))) (λ x. x) (l .a) q _ _ _ (c .with-learner .ensures q) (ap not (c .before .is-stale .ensures m)) (l .inv .1 m q))
+loop-again c = let a = c .before .before .before .before .before .before .before .args in let l = c .before .before .before .loop in (omega arith, λ m q. put-again (λ x. not (any (λ b. safeWithout (heldGraph (a .acceptors) m (a .counts .now) (a .masks .now)) x b (has (a .caught)) && has (a .against) b) (below (a .l)))) (λ x. x) (l .a) q _ _ _ (c .with-learner .ensures q) (ap not (c .before .is-stale .ensures m)) (l .inv .1 m q))
 
-returns : tie.Need-returns Inv-loop μ-loop
-returns c = let a = c .before .before .before .before .args in let l = c .before .loop in λ m q. l .inv .1 m q ∙ any-done (λ x. not (any (λ b. safeWithout (heldGraph (a .acceptors) m (a .counts .now) (a .masks .now)) x b (has (a .caught)) && has (a .against) b) (below (a .l))) && eqb x q) (l .a) (a .k) (l .inv .0) (c .loop-test .left)
+returns-2 : tie.Need-returns-2 Inv-loop μ-loop
+returns-2 c = let a = c .before .before .before .before .before .args in let l = c .before .loop in λ m q. l .inv .1 m q ∙ any-done (λ x. not (any (λ b. safeWithout (heldGraph (a .acceptors) m (a .counts .now) (a .masks .now)) x b (has (a .caught)) && has (a .against) b) (below (a .l))) && eqb x q) (l .a) (a .k) (l .inv .0) (c .loop-test .left)
 
 pub fresh-for-spec : {M : Type 1} → statement M
 fresh-for-spec =
@@ -47,10 +53,12 @@ fresh-for-spec =
     (tie.spec
     Inv-loop
     μ-loop
+    first-learners-requires
+    returns
     loop-holds
     is-stale-requires
     with-learner-requires
     add-a
     loop-less
     loop-again
-    returns)
+    returns-2)

@@ -1,11 +1,9 @@
-use mathlib.Core.Path.{_≡_, refl, sym, ap, _∙_, subst}
+use mathlib.Core.Path.{_≡_, refl, _∙_}
 use mathlib.Core.Bool.{_&&_}
 use Prim.Native.Nat.{ℕ, _≤_, _-_}
-use lib.Dec.{T}
 use Rattle.base.specs.Tests.{any, below}
 use Rattle.base.specs.Sets.{has}
-use Rattle.scan.proofs.Loops.{any-again, any-done, any-none}
-use Rattle.scan.proofs.Membership.{and-off, has-zero}
+use Rattle.scan.proofs.Loops.{any-again, any-done}
 use Rattle.graph.specs.LearnerGraph.{safeWithout}
 use Rattle.graph.specs.Held.{heldGraph}
 use borrow.Author.Needs.{needs}
@@ -18,9 +16,6 @@ Inv-loop counts masks acceptors l a caught against found₀ b₀ found b = (b �
 
 abbrev μ-loop : tie.MeasureT-loop
 μ-loop counts masks acceptors l a caught against found₀ b₀ found b = l - b
-
-returns : tie.Need-returns Inv-loop μ-loop
-returns c = let a = c .before .before .before .args in λ m. sym (any-none (λ b. safeWithout (heldGraph (a .acceptors) m (a .counts .now) (a .masks .now)) (a .a) b (has (a .caught)) && has (a .against) b) (a .l) (λ b l t. subst T (and-off (safeWithout (heldGraph (a .acceptors) m (a .counts .now) (a .masks .now)) (a .a) b (has (a .caught))) (has (a .against) b) (ap (λ (x : ℕ). has x b) (c .if1 .taken) ∙ has-zero b)) t))
 
 loop-holds : tie.Need-loop-holds Inv-loop μ-loop
 unfolding any below
@@ -36,10 +31,10 @@ loop-less : tie.Need-loop-less Inv-loop μ-loop
 loop-less c = search needs
 
 loop-again : tie.Need-loop-again Inv-loop μ-loop
-loop-again c = let a = c .before .before .before .before .before .before .args in let l = c .before .before .loop in (omega arith, λ m. any-again (λ b. safeWithout (heldGraph (a .acceptors) m (a .counts .now) (a .masks .now)) (a .a) b (has (a .caught)) && has (a .against) b) (l .b) (c .is-against .result) (l .found) (c .is-against .ensures m) (l .inv .1 m))
+loop-again c = let a = c .before .before .before .before .before .args in let l = c .before .before .loop in (omega arith, λ m. any-again (λ b. safeWithout (heldGraph (a .acceptors) m (a .counts .now) (a .masks .now)) (a .a) b (has (a .caught)) && has (a .against) b) (l .b) (c .is-against .result) (l .found) (c .is-against .ensures m) (l .inv .1 m))
 
-returns-2 : tie.Need-returns-2 Inv-loop μ-loop
-returns-2 c = let a = c .before .before .before .before .before .args in let l = c .before .loop in λ m. l .inv .1 m ∙ any-done (λ b. safeWithout (heldGraph (a .acceptors) m (a .counts .now) (a .masks .now)) (a .a) b (has (a .caught)) && has (a .against) b) (l .b) (a .l) (l .inv .0) (c .loop-test .left)
+returns : tie.Need-returns Inv-loop μ-loop
+returns c = let a = c .before .before .before .before .args in let l = c .before .loop in λ m. l .inv .1 m ∙ any-done (λ b. safeWithout (heldGraph (a .acceptors) m (a .counts .now) (a .masks .now)) (a .a) b (has (a .caught)) && has (a .against) b) (l .b) (a .l) (l .inv .0) (c .loop-test .left)
 
 pub is-stale-spec : {M : Type 1} → statement M
 is-stale-spec =
@@ -47,10 +42,9 @@ is-stale-spec =
     (tie.spec
     Inv-loop
     μ-loop
-    returns
     loop-holds
     is-against-requires
     add-b
     loop-less
     loop-again
-    returns-2)
+    returns)

@@ -4,39 +4,54 @@ use Rattle.base.specs.Tests.{any, below}
 use Rattle.base.specs.Sets.{has}
 use Rattle.base.proofs.Sets.{has-or}
 use Rattle.scan.specs.Arrays.{isRival}
-use Rattle.scan.proofs.Loops.{any-again, any-done}
+use Rattle.scan.proofs.Loops.{any-again, any-next, any-done}
 use Rattle.scan.proofs.Membership.{has-zero}
 use borrow.Author.Needs.{needs}
-use native.Mathlib.Omega.{arith}
 use Rattle.scan.proofs.learners.rivals.Statement.{statement}
 use Rattle.scan.proofs.learners.rivals.Tie as tie
 
 abbrev Inv-loop : tie.InvT-loop
-Inv-loop forms learners signers tops n low high signer v mask₀ j₀ mask j = (j ≤ n) × ((b : ℕ) → has mask b ≡ any (isRival forms learners signers tops low high signer v b) (below j))
+Inv-loop forms learners signers tops n low high signer v walk mask₀ j₀ mask j = (j ≤ n) × ((b : ℕ) → has mask b ≡ any (isRival forms learners signers tops low high signer v b) (below j))
 
 abbrev μ-loop : tie.MeasureT-loop
-μ-loop forms learners signers tops n low high signer v mask₀ j₀ mask j = n - j
+μ-loop forms learners signers tops n low high signer v walk mask₀ j₀ mask j = n - j
+
+next-in-requires : tie.Need-next-in-requires Inv-loop μ-loop
+next-in-requires c κs = search needs
 
 loop-holds : tie.Need-loop-holds Inv-loop μ-loop
 unfolding any below
-loop-holds c = (omega arith, λ b. has-zero b)
+loop-holds c = let a = c .before .before .before .before .before .args in (c .next-in .ensures .1 .0, λ b. has-zero b ∙ any-next _ (isRival (a .forms .now) (a .learners .now) (a .signers .now) (a .tops .now) (a .low) (a .high) (a .signer) (a .v) b) (isRival (a .forms .now) (a .learners .now) (a .signers .now) (a .tops .now) (a .low) (a .high) (a .signer) (a .v) b) _ _ _ _ (c .before .before .before .before .before .pre .1 .1 .1 .1 .1 b) (λ q t. t) (c .next-in .ensures))
 
 rivals-at-requires : tie.Need-rivals-at-requires Inv-loop μ-loop
 rivals-at-requires c κs = search needs
 
-add-j : tie.Need-add-j Inv-loop μ-loop
-add-j c = search needs
+add-next-in : tie.Need-add-next-in Inv-loop μ-loop
+add-next-in c = search needs
+
+next-in-requires-2 : tie.Need-next-in-requires-2 Inv-loop μ-loop
+next-in-requires-2 c κs = search needs
 
 loop-less : tie.Need-loop-less Inv-loop μ-loop
 loop-less c = search needs
 
 loop-again : tie.Need-loop-again Inv-loop μ-loop
-loop-again c = let a = c .before .before .before .before .before .before .before .args in let l = c .before .before .loop in (omega arith, λ b. has-or (c .rivals-at .result) (l .mask) b ∙ any-again (isRival (a .forms .now) (a .learners .now) (a .signers .now) (a .tops .now) (a .low) (a .high) (a .signer) (a .v) b) (l .j) (has (c .rivals-at .result) b) (has (l .mask) b) (c .rivals-at .ensures b) (l .inv .1 b))
+loop-again c = let a = c .before .before .before .before .before .before .before .before .before .args in let l = c .before .before .before .loop in (c .next-in2 .ensures .1 .0, λ b. has-or (c .before .rivals-at .result) (l .mask) b ∙ any-again (isRival (a .forms .now) (a .learners .now) (a .signers .now) (a .tops .now) (a .low) (a .high) (a .signer) (a .v) b) (l .j) (has (c .before .rivals-at .result) b) (has (l .mask) b) (c .before .rivals-at .ensures b) (l .inv .1 b) ∙ any-next _ (isRival (a .forms .now) (a .learners .now) (a .signers .now) (a .tops .now) (a .low) (a .high) (a .signer) (a .v) b) (isRival (a .forms .now) (a .learners .now) (a .signers .now) (a .tops .now) (a .low) (a .high) (a .signer) (a .v) b) _ _ _ _ (c .before .before .before .before .before .before .before .before .before .pre .1 .1 .1 .1 .1 b) (λ q t. t) (c .next-in2 .ensures))
 
 returns : tie.Need-returns Inv-loop μ-loop
-returns c = let a = c .before .before .before .before .before .before .args in let l = c .before .loop in λ b. l .inv .1 b ∙ any-done (isRival (a .forms .now) (a .learners .now) (a .signers .now) (a .tops .now) (a .low) (a .high) (a .signer) (a .v) b) (l .j) (a .n) (l .inv .0) (c .loop-test .left)
+returns c = let a = c .before .before .before .before .before .before .before .args in let l = c .before .loop in λ b. l .inv .1 b ∙ any-done (isRival (a .forms .now) (a .learners .now) (a .signers .now) (a .tops .now) (a .low) (a .high) (a .signer) (a .v) b) (l .j) (a .n) (l .inv .0) (c .loop-test .left)
 
 pub rivals-spec : {M : Type 1} → statement M
 rivals-spec =
     tie.close
-    (tie.spec Inv-loop μ-loop loop-holds rivals-at-requires add-j loop-less loop-again returns)
+    (tie.spec
+    Inv-loop
+    μ-loop
+    next-in-requires
+    loop-holds
+    rivals-at-requires
+    add-next-in
+    next-in-requires-2
+    loop-less
+    loop-again
+    returns)

@@ -1,21 +1,50 @@
-use Prim.Native.Nat.{_-_}
+use mathlib.Core.Path.{_≡_, refl, sym, ap, _∙_}
+use Prim.Native.Nat.{_+_}
+use native.Mathlib.Omega.{arith}
 use borrow.Author.Tests.{eq-eqb, ne-eqb}
-use lib.ListN.{getD}
+use lib.ListN.{getD, drop, set}
+use lib.Seq.{getD-take, getD-drop}
+use Rattle.base.specs.Bytes.{part}
+use Rattle.round.specs.declared.Round.{Round}
+use Rattle.round.specs.Delivery.{withRecent}
+use Rattle.roundbytes.specs.Layout.{roundIn}
+use Rattle.roundbytes.proofs.InPlace.{unwritten, one-next, round-then, of-parts}
 use borrow.Author.Needs.{needs}
 use Rattle.steps.proofs.hold.joined.Statement.{statement}
 use Rattle.steps.proofs.hold.joined.Tie as tie
 
-element-copy-out-if1 : tie.Need-element-copy-out-if1
-element-copy-out-if1 c = search needs
+add-if1 : tie.Need-add-if1
+add-if1 c = search needs
+
+slice-read-if1 : tie.Need-slice-read-if1
+slice-read-if1 c = search needs
 
 returns : tie.Need-returns
-returns c = simp (eq-eqb (getD (c .before .before .args .t1 .kinds) (c .before .before .args .place) 0) 1 (c .if1 .taken))
+returns c = let a = c .before .before .before .args in
+    let s = a .s .now in
+    let k : getD (part 128 s 5558) (a .place) 0 ≡ 1 = getD-take 128 (drop 5558 s) (a .place) 0 (c .before .before .before .pre .1) ∙ getD-drop 5558 s (a .place) 0 ∙ c .if1 .taken in
+    (simp (eq-eqb (getD (part 128 s 5558) (a .place) 0) 1 k), (refl, refl))
 
-element-write-round : tie.Need-element-write-round
-element-write-round c = search needs
+add-put8 : tie.Need-add-put8
+add-put8 c = search needs
+
+put8-requires : tie.Need-put8-requires
+put8-requires c κs = search needs
+
+same-length : tie.Need-same-length
+same-length c = search needs
 
 returns-2 : tie.Need-returns-2
-returns-2 c = simp (ne-eqb (getD (c .before .before .args .t1 .kinds) (c .before .before .args .place) 0) 1 (c .if1 .left))
+returns-2 c = let a = c .before .before .before .before .before .before .before .args in
+    let s = a .s .now in
+    let n = c .before .before .before .before .before .before .before .pre .0 in
+    let k : getD (part 128 s 5558) (a .place) 0 ≡ getD s (5558 + a .place) 0 = getD-take 128 (drop 5558 s) (a .place) 0 (c .before .before .before .before .before .before .before .pre .1) ∙ getD-drop 5558 s (a .place) 0 in
+    let w = one-next s s (c .before .before .put8 .last .0) 11 (a .place) 1 n (unwritten s) (c .before .before .put8 .ensures) (c .before .before .before .before .before .before .before .pre .1) (omega arith) in
+    let e : roundIn (c .before .before .put8 .last .0) ≡ withRecent (roundIn s) (roundIn s .last) (set (roundIn s .recent) (a .place) 1) =
+    round-then s (c .before .before .put8 .last .0) n w ∙ ap (λ (r : Round). withRecent r (r .last) (set (r .recent) (a .place) 1)) (of-parts s n) in
+    (simp (ne-eqb (getD (part 128 s 5558) (a .place) 0) 1 (λ q. c .before .before .before .before .if1 .left (sym k ∙ q))) e, w .kept)
 
 pub joined-spec : {M : Type 1} → statement M
-joined-spec = tie.close (tie.spec element-copy-out-if1 returns element-write-round returns-2)
+joined-spec =
+    tie.close
+    (tie.spec add-if1 slice-read-if1 returns add-put8 put8-requires same-length returns-2)

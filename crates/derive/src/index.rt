@@ -1,0 +1,118 @@
+// The index of the places: for each key a set, so that a question is asked of few places.
+use crate::Walks;
+use base::size;
+use scan::Places;
+use scan::sets::common;
+use scan::sets::put_place;
+ghost use mathlib.Core.Path.{_≡_};
+ghost use mathlib.Core.Bool.{_&&_};
+ghost use Prim.Native.Nat.{ℕ, _<_};
+ghost use lib.Dec.{T};
+ghost use lib.ListN.{length, getD};
+ghost use Rattle.scan.specs.PlaceSets.{inSet};
+ghost use Rattle.derive.specs.Notes.{signerKey, linkKey, ballotKey, formKey, kindKey, Filed, Put, Walked};
+
+// The keys of 1bs, of 2as and of proposals.
+const FIRSTS: usize = 225;
+
+pub const SECONDS: usize = 226;
+
+pub const OFFERS: usize = 229;
+
+fn signer_key(signer: u8) -> usize
+    ensures { λ r. ⌜ r ≡ signerKey signer ⌝ }
+{
+    size(signer) % 32
+}
+
+fn link_key(link: u8) -> usize
+    ensures { λ r. ⌜ r ≡ linkKey link ⌝ }
+{
+    32 + size(link) % 128
+}
+
+pub fn ballot_key(ballot: u64) -> usize
+    ensures { λ r. ⌜ r ≡ ballotKey ballot ⌝ }
+{
+    160 + ((ballot >> 32) % 64) as usize
+}
+
+fn form_key(form: u8) -> usize
+    ensures { λ r. ⌜ r ≡ formKey form ⌝ }
+{
+    224 + size(form) % 4
+}
+
+fn kind_key(kind: u8) -> usize
+    ensures { λ r. ⌜ r ≡ kindKey kind ⌝ }
+{
+    228 + size(kind) % 4
+}
+
+// Those of a set that are in the set of key k.
+pub fn within<'a>(key_low: &'a [u64], key_high: &'a [u64], k: usize, low: u64, high: u64) -> Places
+    requires { ⌜ (k < length (now «key_low»)) × (k < length (now «key_high»)) ⌝ }
+    ensures { λ r. ⌜ ((q : ℕ) → q < 128 → inSet (r .low) (r .high) q ≡ (inSet low high q && inSet (getD (now («key_low» .entry)) k 0) (getD (now («key_high» .entry)) k 0) q)) ⌝ }
+{
+    common(low, high, key_low[k], key_high[k])
+}
+
+// The places of 2as with this ballot, and perhaps others.
+pub fn votes_of<'a>(key_low: &'a [u64], key_high: &'a [u64], ballot: u64) -> Places
+    requires { ⌜ (length (now «key_low») ≡ 232) × (length (now «key_high») ≡ 232) ⌝ }
+    ensures { λ r. ⌜ ((q : ℕ) → q < 128 → Filed (now («key_low» .entry)) (now («key_high» .entry)) (formKey 2) q → Filed (now («key_low» .entry)) (now («key_high» .entry)) (ballotKey ballot) q → T (inSet (r .low) (r .high) q)) ⌝ }
+{
+    let k = ballot_key(ballot);
+    within(key_low, key_high, k, key_low[SECONDS], key_high[SECONDS])
+}
+
+// The places to be asked for a message that reaches the set (low, high); `forked` has each place that forks with one before it.
+pub fn walks_for<'a>(
+    key_low: &'a [u64],
+    key_high: &'a [u64],
+    forked: Places,
+    low: u64,
+    high: u64,
+    ballot: u64,
+    signer: u8,
+    link: u8,
+) -> Walks
+    requires { ⌜ (length (now «key_low») ≡ 232) × (length (now «key_high») ≡ 232) ⌝ }
+    ensures { λ r. ⌜ Walked (now («key_low» .entry)) (now («key_high» .entry)) (forked .low) (forked .high) low high ballot signer link r ⌝ }
+{
+    let s = signer_key(signer);
+    let forks = within(key_low, key_high, link_key(link), key_low[s], key_high[s]);
+    let caught = common(low, high, forked.low, forked.high);
+    let votes = within(key_low, key_high, SECONDS, low, high);
+    let rivals = within(key_low, key_high, s, votes.low, votes.high);
+    let ones = within(key_low, key_high, FIRSTS, low, high);
+    let backers = within(key_low, key_high, ballot_key(ballot), ones.low, ones.high);
+    Walks {
+        forks,
+        caught,
+        votes,
+        rivals,
+        backers,
+    }
+}
+
+// Place j put into the sets of its keys.
+pub fn mark(
+    low: &mut [u64],
+    high: &mut [u64],
+    kind: u8,
+    signer: u8,
+    link: u8,
+    ballot: u64,
+    form: u8,
+    j: usize,
+)
+    requires { ⌜ (j < 128) × ((length (now low) ≡ 232) × (length (now high) ≡ 232)) ⌝ }
+    ensures { λ _. ⌜ Put (now (low .entry)) (now (high .entry)) (now (low .exit)) (now (high .exit)) kind signer link ballot form j ⌝ }
+{
+    put_place(low, high, signer_key(signer), j);
+    put_place(low, high, link_key(link), j);
+    put_place(low, high, ballot_key(ballot), j);
+    put_place(low, high, form_key(form), j);
+    put_place(low, high, kind_key(kind), j);
+}

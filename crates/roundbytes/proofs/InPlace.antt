@@ -1,0 +1,259 @@
+-- A round's bytes written in place: what is put into one field leaves the others, and what stands behind the round, as they were.
+use mathlib.Core.Path.{_≡_, refl, sym, ap, ap₂, _∙_}
+use mathlib.Core.List.{List, [], _∷_, _++_, append-assoc}
+use Prim.Native.Nat.{ℕ, zero, suc, _+_, _-_, _*_, _^_, _≤_, _<_}
+use native.Mathlib.Nat.{add-zero, add-assoc, mul-suc, not-suc-le-zero}
+use native.Mathlib.Decide.{ℕ-discrete}
+use native.Mathlib.Omega.{arith}
+use lib.ListN.{length, getD, take, drop, set, length-append, length-drop}
+use lib.Seq.{drop-at, take-add, take-take, drop-drop, take-append-add, drop-append-add, length-take-le, getD-take, getD-drop, set-at, set-append-left, set-split, append-snoc}
+use Rattle.base.specs.Bytes.{be, bytes, part, putAt}
+use Rattle.base.proofs.Bytes.{bytes-length, be-at, be-bytes, part-length}
+use Rattle.round.specs.declared.Round.{Round}
+use Rattle.round.proofs.Parts.{part-put-front, length-put}
+use Rattle.roundbytes.specs.Layout.{numbers, graphIn, roundIn, roundLen, Kept}
+use Rattle.roundbytes.proofs.Typing.{numbers-length}
+
+-- ---- bytes put into a list
+drop-take : (m k : ℕ) (l : List ℕ) → m ≤ length l → drop m (take (m + k) l) ≡ take k (drop m l)
+drop-take m k l h = ap (drop m) (take-add m k l) ∙ drop-at (take m l) (take k (drop m l)) m (length-take-le m l h)
+
+-- behind where they are put in
+drop-behind : (s v : List ℕ) (at f : ℕ) → at ≤ length s → at + length v ≤ f → drop f (putAt s at v) ≡ drop f s
+drop-behind s v at f h k =
+    let p = take at s ++ v in
+    let m = at + length v in
+    let l : length p ≡ m = length-append (take at s) v ∙ ap (λ (n : ℕ). n + length v) (length-take-le at s h) in
+    let e : f ≡ length p + (f - m) = omega arith in
+    let d : m + (f - m) ≡ f = omega arith in
+    ap (λ (n : ℕ). drop n (p ++ drop m s)) e ∙ drop-append-add p (drop m s) (f - m) ∙ drop-drop (f - m) m s ∙ ap (λ (n : ℕ). drop n s) d
+
+-- into a part of it
+drop-inside : (s v : List ℕ) (f i : ℕ) → f + i ≤ length s → drop f (putAt s (f + i) v) ≡ putAt (drop f s) i v
+drop-inside s v f i h =
+    let a = take f s in
+    let b = take i (drop f s) in
+    let d = drop (f + i + length v) s in
+    let e : drop (i + length v) (drop f s) ≡ d = drop-drop (i + length v) f s ∙ ap (λ (n : ℕ). drop n s) (sym (add-assoc f i (length v))) in
+    ap (λ (x : List ℕ). drop f (x ++ v ++ d)) (take-add f i s)
+    ∙ ap (drop f) (ap (λ (x : List ℕ). x ++ d) (append-assoc a b v) ∙ append-assoc a (b ++ v) d)
+    ∙ drop-at a (b ++ v ++ d) f (length-take-le f s (omega arith))
+    ∙ ap (λ (x : List ℕ). b ++ v ++ x) (sym e)
+
+take-inside : (l v : List ℕ) (n i : ℕ) → i + length v ≤ n → i + length v ≤ length l → take n (putAt l i v) ≡ putAt (take n l) i v
+take-inside l v n i h k =
+    let p = take i l ++ v in
+    let m = i + length v in
+    let q : length p ≡ m = length-append (take i l) v ∙ ap (λ (j : ℕ). j + length v) (length-take-le i l (omega arith)) in
+    let e : n ≡ length p + (n - m) = omega arith in
+    let g : n ≡ m + (n - m) = omega arith in
+    let d : drop m (take n l) ≡ take (n - m) (drop m l) = ap (λ (j : ℕ). drop m (take j l)) g ∙ drop-take m (n - m) l k in
+    ap (λ (j : ℕ). take j (p ++ drop m l)) e ∙ take-append-add p (drop m l) (n - m)
+    ∙ sym (ap₂ (λ (x y : List ℕ). x ++ v ++ y) (take-take i n l (omega arith)) d)
+
+part-inside : (n : ℕ) (s v : List ℕ) (f i : ℕ) → i + length v ≤ n → f + n ≤ length s → part n (putAt s (f + i) v) f ≡ putAt (part n s f) i v
+part-inside n s v f i h k = ap (take n) (drop-inside s v f i (omega arith)) ∙ take-inside (drop f s) v n i h (omega (arith, length-drop f s))
+
+-- one byte
+put-one : (l : List ℕ) (i x : ℕ) → i < length l → putAt l i (x ∷ []) ≡ set l i x
+put-one l i x h =
+    let e : i + 1 ≡ suc i = omega arith in
+    append-snoc (take i l) x (drop (i + 1) l) ∙ ap (λ (n : ℕ). take i l ++ x ∷ drop n l) e ∙ sym (set-split l i x h)
+
+-- ---- a list cut into parts of given widths, and where part k begins
+abbrev pub cut : List ℕ → List ℕ → ℕ → List (List ℕ)
+cut [] s at = []
+cut (w ∷ ws) s at = part w s at ∷ cut ws s (at + w)
+
+abbrev pub start : List ℕ → ℕ → ℕ
+start [] k = 0
+start (w ∷ ws) zero = 0
+start (w ∷ ws) (suc k) = w + start ws k
+
+-- bytes put into part k, from i on; and one byte
+abbrev pub into : List (List ℕ) → ℕ → ℕ → List ℕ → List (List ℕ)
+into l k i v = set l k (putAt (getD l k []) i v)
+
+abbrev pub oneInto : List (List ℕ) → ℕ → ℕ → ℕ → List (List ℕ)
+oneInto l k i x = set l k (set (getD l k []) i x)
+
+cut-behind : (ws s v : List ℕ) (at f : ℕ) → at ≤ length s → at + length v ≤ f → cut ws (putAt s at v) f ≡ cut ws s f
+cut-behind [] s v at f h k = refl
+cut-behind (w ∷ ws) s v at f h k = ap₂ _∷_ (ap (take w) (drop-behind s v at f h k)) (cut-behind ws s v at (f + w) h (omega arith))
+
+cut-put : (ws s v : List ℕ) (at k i : ℕ) → i + length v ≤ getD ws k 0 → at + start ws k + getD ws k 0 ≤ length s
+    → cut ws (putAt s (at + start ws k + i) v) at ≡ into (cut ws s at) k i v
+cut-put [] s v at k i h q = refl
+cut-put (w ∷ ws) s v at zero i h q =
+    let e : at + 0 + i ≡ at + i = omega arith in
+    ap (λ (n : ℕ). cut (w ∷ ws) (putAt s n v) at) e ∙ ap₂ _∷_ (part-inside w s v at i h (omega arith)) (cut-behind ws s v (at + i) (at + w) (omega arith) (omega arith))
+cut-put (w ∷ ws) s v at (suc k) i h q =
+    let e : at + (w + start ws k) + i ≡ at + w + start ws k + i = omega arith in
+    ap (λ (n : ℕ). cut (w ∷ ws) (putAt s n v) at) e
+    ∙ ap₂ _∷_ (part-put-front s v (at + w + start ws k + i) w at (omega arith) (omega arith)) (cut-put ws s v (at + w) k i h (omega arith))
+
+cut-length : (ws s : List ℕ) (at k : ℕ) → at + start ws k + getD ws k 0 ≤ length s → length (getD (cut ws s at) k []) ≡ getD ws k 0
+cut-length [] s at k h = refl
+cut-length (w ∷ ws) s at zero h = part-length w s at (omega arith)
+cut-length (w ∷ ws) s at (suc k) h = cut-length ws s (at + w) k (omega arith)
+
+-- ---- what is read in a part
+getD-part : (n : ℕ) (s : List ℕ) (f j : ℕ) → j < n → getD (part n s f) j 0 ≡ getD s (f + j) 0
+getD-part n s f j h = getD-take n (drop f s) j 0 h ∙ getD-drop f s j 0
+
+be-part : (w n : ℕ) (s : List ℕ) (f at : ℕ) → at + w ≤ n → be w (part n s f) at ≡ be w s (f + at)
+unfolding be
+be-part zero n s f at h = refl
+be-part (suc w) n s f at h =
+    ap₂ (λ (x y : ℕ). x * 256 + y) (be-part w n s f at (omega arith)) (getD-part n s f (at + w) (omega arith) ∙ ap (λ (k : ℕ). getD s k 0) (sym (add-assoc f at w)))
+
+numbers-part : (w k n : ℕ) (s : List ℕ) (f at : ℕ) → at + w * k ≤ n → numbers w k (part n s f) at ≡ numbers w k s (f + at)
+unfolding numbers
+numbers-part w zero n s f at h = refl
+numbers-part w (suc k) n s f at h =
+    let e : w * suc k ≡ w * k + w = mul-suc w k in
+    ap₂ (λ (x : List ℕ) (y : ℕ). x ++ (y ∷ [])) (numbers-part w k n s f at (omega arith))
+    (be-part w n s f (at + w * k) (omega arith) ∙ ap (be w s) (sym (add-assoc f at (w * k))))
+
+part-part : (m n : ℕ) (s : List ℕ) (f at : ℕ) → at + m ≤ n → f + n ≤ length s → part m (part n s f) at ≡ part m s (f + at)
+part-part m n s f at h k =
+    let l = drop f s in
+    let e : n ≡ at + (n - at) = omega arith in
+    ap (λ (j : ℕ). part m (take j l) at) e ∙ ap (take m) (drop-take at (n - at) l (omega (arith, length-drop f s))) ∙ take-take m (n - at) (drop at l) (omega arith)
+    ∙ ap (take m) (drop-drop at f s)
+
+-- ---- a number of eight bytes put among others
+be-same : (s t : List ℕ) (f : ℕ) → part 8 t f ≡ part 8 s f → be 8 t f ≡ be 8 s f
+be-same s t f e =
+    let own : (x : List ℕ) → be 8 (part 8 x f) 0 ≡ be 8 x f = λ x. be-part 8 8 x f 0 (omega arith) ∙ ap (be 8 x) (add-zero f) in
+    sym (own t) ∙ ap (λ (x : List ℕ). be 8 x 0) e ∙ own s
+
+be-put : (l : List ℕ) (at x : ℕ) → at ≤ length l → x < 256 ^ 8 → be 8 (putAt l at (bytes 8 x)) at ≡ x
+be-put l at x h k =
+    let v = bytes 8 x in
+    let t = drop (at + length v) l in
+    ap (λ (y : List ℕ). be 8 y at) (append-assoc (take at l) v t) ∙ be-at 8 (take at l) (v ++ t) at (length-take-le at l h) ∙ be-bytes 8 x t k
+
+module _ (l : List ℕ) (i x : ℕ) (fit : x < 256 ^ 8) where
+  abbrev put : List ℕ
+  put = putAt l (8 * i) (bytes 8 x)
+
+  numbers-front : (n : ℕ) → n ≤ i → 8 * i ≤ length l → numbers 8 n put 0 ≡ numbers 8 n l 0
+  unfolding numbers
+  numbers-front zero h k = refl
+  numbers-front (suc n) h k =
+      ap₂ (λ (y : List ℕ) (z : ℕ). y ++ (z ∷ [])) (numbers-front n (omega arith) k) (be-same l put (0 + 8 * n) (part-put-front l (bytes 8 x) (8 * i) 8 (0 + 8 * n) (omega arith) k))
+
+  pub numbers-put : (n : ℕ) → i < n → 8 * n ≤ length l → numbers 8 n put 0 ≡ set (numbers 8 n l 0) i x
+  unfolding numbers
+  numbers-put zero h k = absurd (not-suc-le-zero h)
+  numbers-put (suc n) h k = go (λ a b. numbers-put n a b) (ℕ-discrete i n)
+    where
+      q : length (bytes 8 x) ≡ 8
+      q = bytes-length 8 x
+
+      go : (i < n → 8 * n ≤ length l → numbers 8 n put 0 ≡ set (numbers 8 n l 0) i x) → Dec (i ≡ n) → numbers 8 (suc n) put 0 ≡ set (numbers 8 (suc n) l 0) i x
+      go rest (yes e) =
+          let a = numbers 8 n l 0 in
+          let y : be 8 put (0 + 8 * n) ≡ x = ap (λ (j : ℕ). be 8 put j) (omega arith) ∙ be-put l (8 * i) x (omega arith) fit in
+          ap₂ (λ (u : List ℕ) (z : ℕ). u ++ (z ∷ [])) (numbers-front n (omega arith) (omega arith)) y
+          ∙ sym (set-at a (be 8 l (0 + 8 * n)) [] x i (numbers-length 8 n l 0 ∙ sym e))
+      go rest (no e) =
+          let a = numbers 8 n l 0 in
+          let b = q in
+          ap₂ (λ (u : List ℕ) (z : ℕ). u ++ (z ∷ [])) (rest (omega arith) (omega arith)) (be-same l put (0 + 8 * n) (ap (take 8) (drop-behind l (bytes 8 x) (8 * i) (0 + 8 * n) (omega arith) (omega arith))))
+          ∙ sym (set-append-left a (be 8 l (0 + 8 * n) ∷ []) i x (omega (arith, numbers-length 8 n l 0)))
+
+-- ---- a round, of its parts: what stands in front of the count of held messages, that count, the last sent, and the columns
+abbrev pub widths : List ℕ
+widths = 1460 ∷ 1 ∷ 1 ∷ 4096 ∷ 128 ∷ 128 ∷ 1024 ∷ 128 ∷ 128 ∷ 16384 ∷ 128 ∷ 128 ∷ []
+
+abbrev pub parts : List ℕ → List (List ℕ)
+parts s = cut widths s 0
+
+abbrev pub roundOf : List (List ℕ) → Round
+roundOf l =
+    record {
+      graph = graphIn (getD l 0 []);
+      house = be 2 (getD l 0 []) 1454;
+      bay = be 2 (getD l 0 []) 1456;
+      own = be 2 (getD l 0 []) 1458;
+      held = getD (getD l 1 []) 0 0;
+      last = getD (getD l 2 []) 0 0;
+      ids = getD l 3 [];
+      kinds = getD l 4 [];
+      signers = getD l 5 [];
+      ballots = numbers 8 128 (getD l 6 []) 0;
+      previous = getD l 7 [];
+      counts = getD l 8 [];
+      references = getD l 9 [];
+      known = getD l 10 [];
+      recent = getD l 11 [];
+    }
+
+pub of-parts : (s : List ℕ) → roundLen ≤ length s → roundOf (parts s) ≡ roundIn s
+of-parts s h =
+    let acceptors = getD-part 1460 s 0 0 (omega arith) in
+    let learners = getD-part 1460 s 0 1 (omega arith) in
+    let counts = part-part 44 1460 s 0 2 (omega arith) (omega arith) in
+    let masks = numbers-part 4 352 1460 s 0 46 (omega arith) in
+    let house = be-part 2 1460 s 0 1454 (omega arith) in
+    let bay = be-part 2 1460 s 0 1456 (omega arith) in
+    let own = be-part 2 1460 s 0 1458 (omega arith) in
+    let held = getD-part 1 s 1460 0 (omega arith) in
+    let last = getD-part 1 s 1461 0 (omega arith) in
+    let ballots = numbers-part 8 128 1024 s 5814 0 (omega arith) in
+    let r = roundIn s in
+    λ i.
+    record {
+      graph = record { acceptors = acceptors i; learners = learners i; counts = counts i; masks = masks i };
+      house = house i;
+      bay = bay i;
+      own = own i;
+      held = held i;
+      last = last i;
+      ids = r .ids;
+      kinds = r .kinds;
+      signers = r .signers;
+      ballots = ballots i;
+      previous = r .previous;
+      counts = r .counts;
+      references = r .references;
+      known = r .known;
+      recent = r .recent;
+    }
+
+-- ---- a round's bytes s written to until they are t: its parts, and what stands behind it
+pub record Written (s t : List ℕ) (l : List (List ℕ)) : Type 0 where
+  pub parted : parts t ≡ l
+  pub kept : Kept s t
+
+pub unwritten : (s : List ℕ) → Written s s (parts s)
+unwritten s = record { parted = refl; kept = (refl, refl) }
+
+-- bytes put into part k, from i on
+pub put-next : (s t u v : List ℕ) {l : List (List ℕ)} (k i : ℕ) → roundLen ≤ length s → Written s t l → u ≡ putAt t (0 + start widths k + i) v → i + length v ≤ getD widths k 0
+    → 0 + start widths k + getD widths k 0 ≤ roundLen → Written s u (into l k i v)
+put-next s t u v k i n w e h q =
+    let m : length t ≡ length s = w .kept .0 in
+    let at = 0 + start widths k + i in
+    record {
+      parted = ap parts e ∙ cut-put widths t v 0 k i h (omega arith) ∙ ap (λ (x : List (List ℕ)). into x k i v) (w .parted);
+      kept = (ap length e ∙ length-put t v at (omega arith) ∙ m, ap (drop roundLen) e ∙ drop-behind t v at roundLen (omega arith) (omega arith) ∙ w .kept .1);
+    }
+
+-- one byte
+pub one-next : (s t u : List ℕ) {l : List (List ℕ)} (k i x : ℕ) → roundLen ≤ length s → Written s t l → u ≡ putAt t (0 + start widths k + i) (x ∷ []) → i < getD widths k 0
+    → 0 + start widths k + getD widths k 0 ≤ roundLen → Written s u (oneInto l k i x)
+one-next s t u k i x n w e h q =
+    let m : length t ≡ length s = w .kept .0 in
+    let o : length (getD (parts t) k []) ≡ getD widths k 0 = cut-length widths t 0 k (omega arith) in
+    let z = put-next s t u (x ∷ []) k i n (record { parted = refl; kept = w .kept }) e (omega arith) q in
+    record {
+      parted = z .parted ∙ ap (set (parts t) k) (put-one (getD (parts t) k []) i x (omega arith)) ∙ ap (λ (y : List (List ℕ)). oneInto y k i x) (w .parted);
+      kept = z .kept;
+    }
+
+-- the round then
+pub round-then : (s t : List ℕ) {l : List (List ℕ)} → roundLen ≤ length s → Written s t l → roundIn t ≡ roundOf l
+round-then s t n w = let m : length t ≡ length s = w .kept .0 in sym (of-parts t (omega arith)) ∙ ap roundOf (w .parted)
