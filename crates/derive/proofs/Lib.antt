@@ -12,3 +12,5 @@ pub mod Verdicts
 pub mod Naming
 -- The places that are asked for a message
 pub mod Walking
+-- What stays of the notes when one place more is held
+pub mod Keeping

@@ -4,3 +4,5 @@ pub mod Notes
 pub mod Records
 -- What the report asks of the notes
 pub mod Deciding
+-- The notes of a round's places are right, all of them
+pub mod Complete

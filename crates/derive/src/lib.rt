@@ -2,6 +2,7 @@
 // learners it is fresh or counts, and whether it is well-formed. One pass over the places, each from those before it; the arrays are lent.
 use scan::Places;
 
+pub mod grow;
 pub mod index;
 pub mod pass;
 pub mod report;

@@ -28,7 +28,7 @@ ghost use Rattle.derive.specs.Records.{namedIn, tableIn, Fit, Lengths};
 ghost use Rattle.derive.specs.Notes.{NotedBy, Known, Judged, Marks, Ready};
 
 // The held message at place p, with the place itself among those that it reaches.
-fn note_held<'a>(
+pub fn note_held<'a>(
     lists: &'a [u8],
     masks: &'a [Mask],
     kinds: &'a [u8],

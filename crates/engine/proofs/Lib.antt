@@ -10,3 +10,5 @@ pub mod Entering
 pub mod Voting
 -- The order of a delivery's checks
 pub mod Delivering
+-- The notes of a round that holds one message more
+pub mod Keeping

@@ -19,9 +19,9 @@ use Rattle.protocol.specs.Table.{Held, Table, nodeBy, tree}
 use Rattle.protocol.specs.Places.{reportAt}
 use Rattle.derive.specs.declared.Note.{Note}
 use Rattle.derive.specs.declared.Notes.{Notes}
-use Rattle.scan.specs.Arrays.{Named, IdsIndexed}
 use Rattle.derive.specs.Deciding.{isKnownIn, shown}
-use Rattle.derive.specs.Notes.{Known, Judged, Marks}
+use Rattle.derive.specs.Complete.{Complete}
+use Rattle.derive.specs.Notes.{Judged}
 use Rattle.derive.specs.Records.{tableIn, Fit, Lengths}
 use Rattle.round.specs.declared.Round.{Round}
 use Rattle.round.specs.declared.Report.the-variants.{Refused}
@@ -97,15 +97,7 @@ module _ (r : Round) where
 
   -- the notes of l learners and n places, from the masks m and the ballots b
   abbrev pub NotesTo : ℕ → ℕ → List ℕ → List ℕ → Notes → Type 0
-  NotesTo l n m b x =
-      Named (r .ids) n (x .names)
-      × Known (graphTo l m) (tableTo n b) (r .kinds) (r .signers) (x .low) (x .high) (x .forklow) (x .forkhigh) (x .tops) (x .learners) (x .fresh) (x .forms)
-
-  -- the indexes of n places
-  abbrev pub IndexesTo : ℕ → Notes → Type 0
-  IndexesTo n x =
-      IdsIndexed (r .ids) n (x .idlow) (x .idhigh)
-      × Marks n (r .kinds) (r .signers) (x .names) (r .previous) (x .forklow) (x .forkhigh) (x .tops) (x .forms) (x .keylow) (x .keyhigh) (x .forked .low) (x .forked .high)
+  NotesTo l n m b x = Complete (graphTo l m) (r .ids) (r .kinds) (r .signers) b (r .previous) (r .counts) (r .references) n x
 
   -- l learners, n held messages, masks m and ballots b that were read: they are the round's
   module _ (l n : ℕ) (m b : List ℕ) (e : l ≡ r .graph .learners) (g : n ≡ r .held) (p : m ≡ r .graph .masks) (q : b ≡ r .ballots) where
@@ -142,11 +134,9 @@ module _ (r : Round) where
     pub notes-lent : (x : Notes) → NotesTo (r .graph .learners) (r .held) (r .graph .masks) (r .ballots) x → NotesTo l n m b x
     notes-lent x h = transport⁻¹ (same x) h
 
-    pub indexes-read : (x : Notes) → IndexesTo n x → IndexesTo (r .held) x
-    indexes-read x h = subst (λ k. IndexesTo k x) g h
-
-    pub indexes-lent : (x : Notes) → IndexesTo (r .held) x → IndexesTo n x
-    indexes-lent x h = subst (λ k. IndexesTo k x) (sym g) h
+    -- and so are those of fewer places
+    pub fewer-lent : (k : ℕ) (x : Notes) → NotesTo (r .graph .learners) k (r .graph .masks) (r .ballots) x → NotesTo l k m b x
+    fewer-lent k x h = let same : NotesTo l k m b x ≡ NotesTo (r .graph .learners) k (r .graph .masks) (r .ballots) x = λ i. NotesTo (e i) k (p i) (q i) x in transport⁻¹ same h
 
     -- what the pass says is said of the round
     pub reported-lent : (a : ℕ)

@@ -4,3 +4,5 @@ pub mod Telling
 pub mod Giving
 -- Rows 8 to 16 as they are asked
 pub mod Turning
+-- The notes of a round's messages
+pub mod Working

@@ -1,7 +1,10 @@
 // After acceptance: the reply to a message that the round holds, sent or not. The round stands in the bytes s.
 use crate::judge::judge;
+use crate::meaning::notes_more;
+use crate::meaning::notes_of;
 use base::put_all;
 use base::size;
+use derive::Notes;
 use digest::sha256;
 use graph::Mask;
 use round::Outcome;
@@ -22,16 +25,18 @@ use steps::lookup::named_place;
 use steps::reply::Reply;
 use steps::reply::form_reply;
 ghost use mathlib.Core.Path.{_≡_};
-ghost use Prim.Native.Nat.{_≤_, _<_};
+ghost use Prim.Native.Nat.{suc, _≤_, _<_};
 ghost use lib.ListN.{length, take, set, replicate};
 ghost use Rattle.digest.specs.Sha256.{sha256};
 ghost use Rattle.protocol.specs.Table.{says};
+ghost use Rattle.derive.specs.Records.{Fit};
 ghost use Rattle.round.specs.Held.{named};
 ghost use Rattle.round.specs.Rows.{messageOf};
 ghost use Rattle.round.specs.Reply.{replyBytes, isSent};
 ghost use Rattle.round.specs.Delivery.{hold, withRecent, recentWith, answered, processed};
 ghost use Rattle.roundbytes.specs.Layout.{roundLen, roundIn, Kept};
 ghost use Rattle.engine.specs.Giving.{Gives, left, accepts, replies, Earlier, Formed, Sendable, Answerable};
+ghost use Rattle.engine.specs.Working.{WorkedTo, Worked};
 
 // Nothing is sent: the message at place p joins recent, unless it is a proposal.
 fn join(s: &mut [u8], p: usize) -> Outcome
@@ -82,19 +87,26 @@ fn reply_to(s: &[u8], p: usize, buf: &mut [u8]) -> Reply
 }
 
 // Whether a reply with this id, which refers to the first `count` of some places, is well-formed.
-fn is_sent<'a>(s: &'a [u8], masks: &'a [Mask], id: &'a [u8], places: &'a [u8], count: usize) -> bool
-    requires { ⌜ (roundLen ≤ length (now s)) × ((now masks ≡ roundIn (now s) .graph .masks) × (Sendable (roundIn (now s)) (now places) count × Earlier (roundIn (now s)) (take count (now places)))) ⌝ }
+fn is_sent<'a>(
+    s: &'a [u8],
+    masks: &'a [Mask],
+    notes: Notes,
+    id: &'a [u8],
+    places: &'a [u8],
+    count: usize,
+) -> bool
+    requires { ⌜ (roundLen ≤ length (now s)) × ((now masks ≡ roundIn (now s) .graph .masks) × (Worked (roundIn (now s)) notes × (Sendable (roundIn (now s)) (now places) count × Earlier (roundIn (now s)) (take count (now places))))) ⌝ }
     ensures { λ b. ⌜ b ≡ isSent (roundIn (now (s .entry))) (messageOf (roundIn (now (s .entry))) (says (now (id .entry)) (roundIn (now (s .entry)) .own) (named (roundIn (now (s .entry))) (roundIn (now (s .entry)) .last)) (take count (now (places .entry))))) ⌝ }
 {
     let own = word16(s, OWN_AT);
     let last = s[LAST_AT];
-    let note = judge(s, masks, id, &places[0..count], own as u8, last);
+    let note = judge(s, masks, notes, id, &places[0..count], own as u8, last);
     note.formed1b & note.formed2a
 }
 
 // The reply of an acceptor to the message at place p is formed; it is sent where it is well-formed.
-fn answer(s: &mut [u8], masks: &[Mask], p: usize, reply: &mut [u8]) -> Outcome
-    requires { ⌜ (roundLen ≤ length (now s)) × ((now masks ≡ roundIn (now s) .graph .masks) × (Answerable (roundIn (now s)) p (now reply) × (roundIn (now s) .own < 256))) ⌝ }
+fn answer(s: &mut [u8], masks: &[Mask], notes: Notes, p: usize, reply: &mut [u8]) -> Outcome
+    requires { ⌜ (roundLen ≤ length (now s)) × ((now masks ≡ roundIn (now s) .graph .masks) × (Worked (roundIn (now s)) notes × (Answerable (roundIn (now s)) p (now reply) × (roundIn (now s) .own < 256)))) ⌝ }
     ensures given { λ o. ⌜ Gives (answered sha256 (roundIn (now (s .entry))) p (replyBytes (roundIn (now (s .entry))) p)) (left o (now (s .exit))) (now (reply .entry)) (now (reply .exit)) ⌝ }
     ensures kept { λ _. ⌜ Kept (now (s .entry)) (now (s .exit)) ⌝ }
 {
@@ -104,21 +116,53 @@ fn answer(s: &mut [u8], masks: &[Mask], p: usize, reply: &mut [u8]) -> Outcome
     let count = z.count;
     let len = z.len;
     let id = sha256(&scratch[0..len]);
-    if !is_sent(s, masks, &id, &places, count) {
+    if !is_sent(s, masks, notes, &id, &places, count) {
         return join(s, p);
     }
     put_all(reply, 0, &scratch[0..len]);
     send(s, &id, &places, count, len)
 }
 
-// What follows on the message at place p: a round with no acceptor number sends nothing.
+// What follows on the message at place p: a round with no acceptor number sends nothing, and works nothing out.
 pub fn process(s: &mut [u8], masks: &[Mask], p: usize, reply: &mut [u8]) -> Outcome
     requires { ⌜ (roundLen ≤ length (now s)) × ((now masks ≡ roundIn (now s) .graph .masks) × Answerable (roundIn (now s)) p (now reply)) ⌝ }
     ensures given { λ o. ⌜ Gives (processed sha256 (roundIn (now (s .entry))) p) (left o (now (s .exit))) (now (reply .entry)) (now (reply .exit)) ⌝ }
     ensures kept { λ _. ⌜ Kept (now (s .entry)) (now (s .exit)) ⌝ }
 {
     if word16(s, OWN_AT) < 256 {
-        return answer(s, masks, p, reply);
+        let notes = notes_of(s, masks);
+        return answer(s, masks, notes, p, reply);
+    }
+    Outcome::Accepted
+}
+
+// The same where the notes are worked out.
+pub fn process_by(s: &mut [u8], masks: &[Mask], notes: Notes, p: usize, reply: &mut [u8]) -> Outcome
+    requires { ⌜ (roundLen ≤ length (now s)) × ((now masks ≡ roundIn (now s) .graph .masks) × (Worked (roundIn (now s)) notes × Answerable (roundIn (now s)) p (now reply))) ⌝ }
+    ensures given { λ o. ⌜ Gives (processed sha256 (roundIn (now (s .entry))) p) (left o (now (s .exit))) (now (reply .entry)) (now (reply .exit)) ⌝ }
+    ensures kept { λ _. ⌜ Kept (now (s .entry)) (now (s .exit)) ⌝ }
+{
+    if word16(s, OWN_AT) < 256 {
+        return answer(s, masks, notes, p, reply);
+    }
+    Outcome::Accepted
+}
+
+// The same where they are worked out for all places but p, the last one.
+pub fn process_new(
+    s: &mut [u8],
+    masks: &[Mask],
+    notes: Notes,
+    p: usize,
+    reply: &mut [u8],
+) -> Outcome
+    requires { ⌜ (roundLen ≤ length (now s)) × ((now masks ≡ roundIn (now s) .graph .masks) × (((roundIn (now s) .held ≡ suc p) × (Fit p (roundIn (now s) .kinds) (roundIn (now s) .previous) (roundIn (now s) .counts) (roundIn (now s) .references) × WorkedTo (roundIn (now s)) p notes)) × Answerable (roundIn (now s)) p (now reply))) ⌝ }
+    ensures given { λ o. ⌜ Gives (processed sha256 (roundIn (now (s .entry))) p) (left o (now (s .exit))) (now (reply .entry)) (now (reply .exit)) ⌝ }
+    ensures kept { λ _. ⌜ Kept (now (s .entry)) (now (s .exit)) ⌝ }
+{
+    if word16(s, OWN_AT) < 256 {
+        let more = notes_more(s, masks, notes, p);
+        return answer(s, masks, more, p, reply);
     }
     Outcome::Accepted
 }

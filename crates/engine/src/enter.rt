@@ -1,7 +1,10 @@
 // An accepted message becomes known: at the place where it awaited its return, or behind the others. Then it is answered. The round stands in
 // the bytes s.
 use crate::answer::process;
+use crate::answer::process_by;
+use crate::answer::process_new;
 use base::size;
+use derive::Notes;
 use graph::Mask;
 use round::Outcome;
 use roundbytes::HELD_AT;
@@ -24,6 +27,7 @@ ghost use Rattle.round.specs.Delivery.{entered};
 ghost use Rattle.roundbytes.specs.Layout.{roundLen, roundIn, Kept};
 ghost use Rattle.steps.specs.Lent.{previousIn};
 ghost use Rattle.engine.specs.Giving.{Gives, left, Enterable, Referring};
+ghost use Rattle.engine.specs.Working.{Worked};
 
 // A proposal that is not held goes behind the others.
 fn add_proposal<'a>(
@@ -70,6 +74,7 @@ pub fn enter_proposal<'a>(
 fn add_vote<'a>(
     s: &mut [u8],
     masks: &'a [Mask],
+    notes: Notes,
     id: &'a [u8],
     signer: u8,
     bytes: &'a [u8],
@@ -78,20 +83,21 @@ fn add_vote<'a>(
     count: usize,
     reply: &mut [u8],
 ) -> Outcome
-    requires { ⌜ (roundLen ≤ length (now s)) × ((now masks ≡ roundIn (now s) .graph .masks) × ((Enterable (roundIn (now s)) (now id) (now reply) × (placeOf (roundIn (now s)) (now id) ≡ none)) × ((length (now id) ≡ 32) × ((42 ≤ length (now bytes)) × ((count ≤ length (now places)) × Referring (roundIn (now s)) (previousIn (now bytes) previous) (take count (now places))))))) ⌝ }
+    requires { ⌜ (roundLen ≤ length (now s)) × ((now masks ≡ roundIn (now s) .graph .masks) × (Worked (roundIn (now s)) notes × ((Enterable (roundIn (now s)) (now id) (now reply) × (placeOf (roundIn (now s)) (now id) ≡ none)) × ((length (now id) ≡ 32) × ((42 ≤ length (now bytes)) × ((count ≤ length (now places)) × Referring (roundIn (now s)) (previousIn (now bytes) previous) (take count (now places)))))))) ⌝ }
     ensures given { λ o. ⌜ Gives (entered sha256 (roundIn (now (s .entry))) (says (now (id .entry)) signer (previousIn (now (bytes .entry)) previous) (take count (now (places .entry)))) (placeOf (roundIn (now (s .entry))) (now (id .entry)))) (left o (now (s .exit))) (now (reply .entry)) (now (reply .exit)) ⌝ }
     ensures kept { λ _. ⌜ Kept (now (s .entry)) (now (s .exit)) ⌝ }
 {
     let held = size(s[HELD_AT]);
     let at = previous_place(&s[IDS_AT..KINDS_AT], held, bytes, previous);
     hold_vote(s, id, signer, at, places, count, 1);
-    process(s, masks, held, reply)
+    process_new(s, masks, notes, held, reply)
 }
 
 // An acceptor message, whose references are the first `count` of some places, and whose previous id stands in its bytes.
 pub fn enter_vote<'a>(
     s: &mut [u8],
     masks: &'a [Mask],
+    notes: Notes,
     id: &'a [u8],
     signer: u8,
     bytes: &'a [u8],
@@ -100,7 +106,7 @@ pub fn enter_vote<'a>(
     count: usize,
     reply: &mut [u8],
 ) -> Outcome
-    requires { ⌜ (roundLen ≤ length (now s)) × ((now masks ≡ roundIn (now s) .graph .masks) × (Enterable (roundIn (now s)) (now id) (now reply) × ((length (now id) ≡ 32) × ((42 ≤ length (now bytes)) × ((count ≤ length (now places)) × Referring (roundIn (now s)) (previousIn (now bytes) previous) (take count (now places))))))) ⌝ }
+    requires { ⌜ (roundLen ≤ length (now s)) × ((now masks ≡ roundIn (now s) .graph .masks) × (Worked (roundIn (now s)) notes × (Enterable (roundIn (now s)) (now id) (now reply) × ((length (now id) ≡ 32) × ((42 ≤ length (now bytes)) × ((count ≤ length (now places)) × Referring (roundIn (now s)) (previousIn (now bytes) previous) (take count (now places)))))))) ⌝ }
     ensures given { λ o. ⌜ Gives (entered sha256 (roundIn (now (s .entry))) (says (now (id .entry)) signer (previousIn (now (bytes .entry)) previous) (take count (now (places .entry)))) (placeOf (roundIn (now (s .entry))) (now (id .entry)))) (left o (now (s .exit))) (now (reply .entry)) (now (reply .exit)) ⌝ }
     ensures kept { λ _. ⌜ Kept (now (s .entry)) (now (s .exit)) ⌝ }
 {
@@ -108,8 +114,19 @@ pub fn enter_vote<'a>(
     match place_of(&s[IDS_AT..KINDS_AT], held, id) {
         Found::At(p) => {
             returned(s, p);
-            process(s, masks, p, reply)
+            process_by(s, masks, notes, p, reply)
         }
-        Found::Nothing => add_vote(s, masks, id, signer, bytes, previous, places, count, reply),
+        Found::Nothing => add_vote(
+            s,
+            masks,
+            notes,
+            id,
+            signer,
+            bytes,
+            previous,
+            places,
+            count,
+            reply,
+        ),
     }
 }

@@ -1,7 +1,7 @@
 // An acceptor message that a round does not hold, judged by what the round holds.
-use crate::meaning::notes_of;
 use base::size;
 use derive::Note;
+use derive::Notes;
 use derive::pass::note_new;
 use graph::Mask;
 use roundbytes::BALLOTS_AT;
@@ -25,21 +25,23 @@ ghost use Rattle.round.specs.Held.{graphOf, named};
 ghost use Rattle.round.specs.Handed.{fits};
 ghost use Rattle.round.specs.Rows.{messageOf};
 ghost use Rattle.roundbytes.specs.Layout.{roundLen, roundIn};
+ghost use Rattle.engine.specs.Working.{Worked};
 
-// The message with this id and signer, that names the message at a place as its previous one, or none for 255, and refers to these places.
+// By the notes of the round: the message with this id and signer, that names the message at a place as its previous one, or none for 255, and
+// refers to these places.
 pub fn judge<'a>(
     s: &'a [u8],
     masks: &'a [Mask],
+    notes: Notes,
     id: &'a [u8],
     places: &'a [u8],
     signer: u8,
     previous: u8,
 ) -> Note
-    requires { ⌜ (roundLen ≤ length (now s)) × ((now masks ≡ roundIn (now s) .graph .masks) × (T (fits (roundIn (now s))) × (((previous ≡ 255) ⊎ (previous < roundIn (now s) .held)) × ((j : ℕ) → j ∈ (now places) → j < roundIn (now s) .held)))) ⌝ }
+    requires { ⌜ (roundLen ≤ length (now s)) × ((now masks ≡ roundIn (now s) .graph .masks) × (T (fits (roundIn (now s))) × (Worked (roundIn (now s)) notes × (((previous ≡ 255) ⊎ (previous < roundIn (now s) .held)) × ((j : ℕ) → j ∈ (now places) → j < roundIn (now s) .held))))) ⌝ }
     ensures { λ r. ⌜ Judged (graphOf (roundIn (now (s .entry)))) (messageOf (roundIn (now (s .entry))) (says (now (id .entry)) signer (named (roundIn (now (s .entry))) previous) (now (places .entry)))) r ⌝ }
 {
     let acceptors = s[0];
-    let notes = notes_of(s, masks);
     let learners = size(s[1]);
     let held = size(s[HELD_AT]);
     note_new(

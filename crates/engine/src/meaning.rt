@@ -1,6 +1,7 @@
 // What the messages that a round holds mean, worked out. The round stands in bytes, and its masks are lent as they were read.
 use base::size;
 use derive::Notes;
+use derive::grow::grown;
 use derive::pass::work_out;
 use graph::Mask;
 use roundbytes::BALLOTS_AT;
@@ -16,20 +17,18 @@ use roundbytes::REFERENCES_AT;
 use roundbytes::SIGNERS_AT;
 use roundbytes::ballots_in;
 ghost use mathlib.Core.Path.{_≡_};
-ghost use Prim.Native.Nat.{_≤_};
+ghost use Prim.Native.Nat.{suc, _≤_};
 ghost use lib.Dec.{T};
 ghost use lib.ListN.{length};
-ghost use Rattle.scan.specs.Arrays.{Named, IdsIndexed};
-ghost use Rattle.derive.specs.Notes.{Known, Marks};
-ghost use Rattle.round.specs.Held.{graphOf, tableOf};
+ghost use Rattle.derive.specs.Records.{Fit};
 ghost use Rattle.round.specs.Handed.{fits};
 ghost use Rattle.roundbytes.specs.Layout.{roundLen, roundIn};
+ghost use Rattle.engine.specs.Working.{WorkedTo, Worked};
 
 // The notes of the held messages.
 pub fn notes_of<'a>(s: &'a [u8], masks: &'a [Mask]) -> Notes
     requires { ⌜ (roundLen ≤ length (now s)) × ((now masks ≡ roundIn (now s) .graph .masks) × T (fits (roundIn (now s)))) ⌝ }
-    ensures { λ r. ⌜ Named (roundIn (now (s .entry)) .ids) (roundIn (now (s .entry)) .held) (r .names) × Known (graphOf (roundIn (now (s .entry)))) (tableOf (roundIn (now (s .entry)))) (roundIn (now (s .entry)) .kinds) (roundIn (now (s .entry)) .signers) (r .low) (r .high) (r .forklow) (r .forkhigh) (r .tops) (r .learners) (r .fresh) (r .forms) ⌝ }
-    ensures { λ r. ⌜ IdsIndexed (roundIn (now (s .entry)) .ids) (roundIn (now (s .entry)) .held) (r .idlow) (r .idhigh) × Marks (roundIn (now (s .entry)) .held) (roundIn (now (s .entry)) .kinds) (roundIn (now (s .entry)) .signers) (r .names) (roundIn (now (s .entry)) .previous) (r .forklow) (r .forkhigh) (r .tops) (r .forms) (r .keylow) (r .keyhigh) (r .forked .low) (r .forked .high) ⌝ }
+    ensures { λ r. ⌜ Worked (roundIn (now (s .entry))) r ⌝ }
 {
     let acceptors = s[0];
     let learners = size(s[1]);
@@ -48,5 +47,30 @@ pub fn notes_of<'a>(s: &'a [u8], masks: &'a [Mask]) -> Notes
         acceptors,
         learners,
         held,
+    )
+}
+
+// The notes of the held messages, from those of the first n, which are all but the last.
+pub fn notes_more<'a>(s: &'a [u8], masks: &'a [Mask], notes: Notes, n: usize) -> Notes
+    requires { ⌜ (roundLen ≤ length (now s)) × ((now masks ≡ roundIn (now s) .graph .masks) × (T (fits (roundIn (now s))) × ((roundIn (now s) .held ≡ suc n) × (Fit n (roundIn (now s) .kinds) (roundIn (now s) .previous) (roundIn (now s) .counts) (roundIn (now s) .references) × WorkedTo (roundIn (now s)) n notes)))) ⌝ }
+    ensures { λ r. ⌜ Worked (roundIn (now (s .entry))) r ⌝ }
+{
+    let acceptors = s[0];
+    let learners = size(s[1]);
+    let ballots = ballots_in(s);
+    grown(
+        notes,
+        &s[LIST_COUNTS_AT..MASKS_AT],
+        masks,
+        &s[IDS_AT..KINDS_AT],
+        &s[KINDS_AT..SIGNERS_AT],
+        &s[SIGNERS_AT..BALLOTS_AT],
+        &ballots,
+        &s[PREVIOUS_AT..COUNTS_AT],
+        &s[COUNTS_AT..REFERENCES_AT],
+        &s[REFERENCES_AT..KNOWN_AT],
+        acceptors,
+        learners,
+        n,
     )
 }

@@ -2,9 +2,11 @@
 use crate::enter::enter_proposal;
 use crate::enter::enter_vote;
 use crate::judge::judge;
+use crate::meaning::notes_of;
 use base::refusal::Refusal;
 use base::size;
 use derive::Note;
+use derive::Notes;
 use graph::Mask;
 use message::AcceptorMessage;
 use message::Proposal;
@@ -45,6 +47,7 @@ ghost use Rattle.round.specs.Delivery.{proposalTaken, acceptorTaken};
 ghost use Rattle.roundbytes.specs.Layout.{roundLen, roundIn, Kept};
 ghost use Rattle.steps.specs.Lent.{previousIn, placesIn};
 ghost use Rattle.engine.specs.Giving.{Gives, left, Referring};
+ghost use Rattle.engine.specs.Working.{Worked};
 ghost use Rattle.engine.specs.Turning.{rowOf, headRow, chainRow, formRow, soundRow};
 ghost use Rattle.engine.specs.declared.take.Row.the-variants.{Clear};
 
@@ -101,6 +104,7 @@ fn chain_row<'a>(s: &'a [u8], bytes: &'a [u8], m: AcceptorMessage) -> Chained
     requires { ⌜ (roundLen ≤ length (now s)) × ((roundIn (now s) .held ≤ 128) × ((m .count ≤ 128) × (referencesAt (m .previous) + 32 * m .count ≤ length (now bytes)))) ⌝ }
     ensures ruled { λ r. ⌜ r .row ≡ rowOf (chainRow (lacks (roundIn (now (s .entry))) (referenceIds (now (bytes .entry)) m)) (unchained (roundIn (now (s .entry))) (m .signer) (referenceIds (now (bytes .entry)) m) (previousId (now (bytes .entry)) m))) ⌝ }
     ensures placed { λ r. ⌜ (r .row ≡ Clear → take (m .count) (r .places) ≡ placesIn (roundIn (now (s .entry)) .ids) (roundIn (now (s .entry)) .held) (referenceIds (now (bytes .entry)) m)) ⌝ }
+    ensures whole { λ r. ⌜ length (r .places) ≡ 128 ⌝ }
 {
     let held = size(s[HELD_AT]);
     let at = references_at(m.previous);
@@ -170,6 +174,7 @@ fn form_row(note: Note, lacks: bool) -> Row
 fn sound_row<'a>(
     s: &'a [u8],
     masks: &'a [Mask],
+    notes: Notes,
     id: &'a [u8],
     signer: u8,
     bytes: &'a [u8],
@@ -177,12 +182,12 @@ fn sound_row<'a>(
     places: &'a [u8],
     count: usize,
 ) -> Row
-    requires { ⌜ (roundLen ≤ length (now s)) × ((now masks ≡ roundIn (now s) .graph .masks) × (T (fits (roundIn (now s))) × ((length (now id) ≡ 32) × ((42 ≤ length (now bytes)) × ((count ≤ length (now places)) × Referring (roundIn (now s)) (previousIn (now bytes) previous) (take count (now places))))))) ⌝ }
+    requires { ⌜ (roundLen ≤ length (now s)) × ((now masks ≡ roundIn (now s) .graph .masks) × (T (fits (roundIn (now s))) × (Worked (roundIn (now s)) notes × ((length (now id) ≡ 32) × ((42 ≤ length (now bytes)) × ((count ≤ length (now places)) × Referring (roundIn (now s)) (previousIn (now bytes) previous) (take count (now places)))))))) ⌝ }
     ensures { λ r. ⌜ r ≡ rowOf (soundRow (roundIn (now (s .entry))) (now (id .entry)) (messageOf (roundIn (now (s .entry))) (says (now (id .entry)) signer (previousIn (now (bytes .entry)) previous) (take count (now (places .entry)))))) ⌝ }
 {
     let held = size(s[HELD_AT]);
     let at = previous_place(&s[IDS_AT..KINDS_AT], held, bytes, previous);
-    let note = judge(s, masks, id, &places[0..count], signer, at);
+    let note = judge(s, masks, notes, id, &places[0..count], signer, at);
     let lacks = lacks_room(s, id);
     form_row(note, lacks)
 }
@@ -228,13 +233,25 @@ pub fn take_vote<'a>(
         return Outcome::Refused(e);
     }
     let masks = masks_in(s);
-    let sound = sound_row(s, &masks, id, m.signer, bytes, m.previous, &places, m.count);
+    let notes = notes_of(s, &masks);
+    let sound = sound_row(
+        s,
+        &masks,
+        notes,
+        id,
+        m.signer,
+        bytes,
+        m.previous,
+        &places,
+        m.count,
+    );
     if let Row::Applies(e) = sound {
         return Outcome::Refused(e);
     }
     enter_vote(
         s,
         &masks,
+        notes,
         id,
         m.signer,
         bytes,

@@ -47,18 +47,18 @@ is-sent-requires c κs =
     let a = c .before .before .before .before .before .before .before .before .before .before .before .before .before .before .args in
     let r = roundIn (a .s .now) in
     let p = c .before .before .before .before .before .before .before .before .before .before .before .before .before .before .pre in
-    let can = p .1 .1 .0 in
+    let can = p .1 .1 .1 .0 in
     let m = fits-out r (can .fit) .most in
     let here = c .before .before .before .before .before .before .before .before .reply-to .ensures in
     let n = here .most in
     let k = here .whole m in
-    let o = p .1 .1 .1 in
-    (p .0, (p .1 .0, (record { fit = can .fit; voting = o; room = can .room o; most = omega arith; listed = omega arith }, refers-held r (a .p) (take (c .before .before .before .before .before .before .before .before .reply-to .result .count) (c .before .before .before .before .before .before .before .before .reply-to .result .places)) (here .listed))))
+    let o = p .1 .1 .1 .1 in
+    (p .0, (p .1 .0, (p .1 .1 .0, (record { fit = can .fit; voting = o; room = can .room o; most = omega arith; listed = omega arith }, refers-held r (a .p) (take (c .before .before .before .before .before .before .before .before .reply-to .result .count) (c .before .before .before .before .before .before .before .before .reply-to .result .places)) (here .listed)))))
 
 join-requires : tie.Need-join-requires
 join-requires c κs =
     let p = c .before .before .before .before .before .before .before .before .before .before .before .before .before .before .before .before .before .pre in
-    let can = p .1 .1 .0 in
+    let can = p .1 .1 .1 .0 in
     let m = fits-out (roundIn (c .before .before .before .before .before .before .before .before .before .before .before .before .before .before .before .before .before .args .s .now)) (can .fit) .most in
     let h = can .here in
     (p .0, omega arith)
@@ -105,12 +105,12 @@ send-requires c κs =
     let a = c .before .before .before .before .before .before .before .before .before .before .before .before .before .before .before .before .before .before .before .before .before .before .before .before .before .args in
     let r = roundIn (a .s .now) in
     let p = c .before .before .before .before .before .before .before .before .before .before .before .before .before .before .before .before .before .before .before .before .before .before .before .before .before .pre in
-    let can = p .1 .1 .0 in
+    let can = p .1 .1 .1 .0 in
     let m = fits-out r (can .fit) .most in
     let here = c .before .before .before .before .before .before .before .before .before .before .before .before .before .before .before .before .before .before .before .reply-to .ensures in
     let n = here .most in
     let k = here .whole m in
-    let o = p .1 .1 .1 in
+    let o = p .1 .1 .1 .1 in
     let i : length (c .before .before .before .before .before .before .before .before .before .before .before .before .before .before .sha256 .result) ≡ 32 = search needs in
     (p .0, (i, record { fit = can .fit; voting = o; room = can .room o; most = omega arith; listed = omega arith }))
 

@@ -14,6 +14,7 @@ use Rattle.steps.proofs.Lent.{previous-lent}
 use Rattle.engine.specs.Giving.{left}
 use Rattle.engine.proofs.Replying.{kept-on, kept-long}
 use Rattle.engine.proofs.Entering.{held-room, new-answers, new-masks, enters-new, vote-storable}
+use Rattle.engine.proofs.Keeping.{new-worked}
 use borrow.Author.Needs.{needs}
 use native.Mathlib.Omega.{arith}
 use Rattle.engine.proofs.enter.add_vote.Statement.{statement}
@@ -40,28 +41,28 @@ previous-place-requires c κs =
     let b = a .s .now in
     let r = roundIn b in
     let p = c .before .before .before .before .before .before .before .before .before .before .pre in
-    let can = p .1 .1 .0 .0 in
+    let can = p .1 .1 .1 .0 .0 in
     let n : c .before .before .size .result ≡ r .held = c .before .before .size .ensures .0 in
     let m = fits-out r (can .fit) .most in
     let l = p .0 in
-    (omega arith, (part-length 4096 b 1462 (omega arith), p .1 .1 .1 .1 .0))
+    (omega arith, (part-length 4096 b 1462 (omega arith), p .1 .1 .1 .1 .1 .0))
 
 hold-vote-requires : tie.Need-hold-vote-requires
 hold-vote-requires c κs =
     let a = c .before .before .before .before .before .before .before .before .before .before .before .before .args in
     let p = c .before .before .before .before .before .before .before .before .before .before .before .before .pre in
-    let q = p .1 .1 .1 .1 .1 .0 in
-    let y = p .1 .1 .1 .1 .1 .1 .most in
+    let q = p .1 .1 .1 .1 .1 .1 .0 in
+    let y = p .1 .1 .1 .1 .1 .1 .1 .most in
     let t = length-take-le (a .count) (a .places .now) q in
-    (p .0, (held-room (roundIn (a .s .now)) (a .id .now) (a .reply .now) (p .1 .1 .0 .0), (p .1 .1 .1 .0, (omega arith, q))))
+    (p .0, (held-room (roundIn (a .s .now)) (a .id .now) (a .reply .now) (p .1 .1 .1 .0 .0), (p .1 .1 .1 .1 .0, (omega arith, q))))
 
-process-requires : tie.Need-process-requires
-process-requires c κs =
+process-new-requires : tie.Need-process-new-requires
+process-new-requires c κs =
     let a = c .before .before .before .before .before .before .before .before .before .before .before .before .before .before .before .before .before .args in
     let b = a .s .now in
     let r = roundIn b in
     let p = c .before .before .before .before .before .before .before .before .before .before .before .before .before .before .before .before .before .pre in
-    let can = p .1 .1 .0 .0 in
+    let can = p .1 .1 .1 .0 .0 in
     let n : c .before .before .before .before .before .before .before .before .before .size .result ≡ r .held = c .before .before .before .before .before .before .before .before .before .size .ensures .0 in
     let l = take (a .count) (a .places .now) in
     let o = previousIn (a .bytes .now) (a .previous) in
@@ -69,10 +70,10 @@ process-requires c κs =
     let t = c .before .before .before .before .hold-vote .last .0 in
     let q : c .before .before .before .before .before .before .previous-place .result ≡ previousPlace r o = c .before .before .before .before .before .before .previous-place .ensures ∙ ap (λ (k : ℕ). previousPlaceIn (r .ids) k o) n ∙ sym (previous-lent r o) in
     let g : roundIn t ≡ hold r h 1 = c .before .before .before .before .hold-vote .ensures .0 o q in
-    let can-hold = vote-storable r (a .id .now) (a .signer) o l (p .1 .1 .1 .0) (λ j. omega (arith, c .before .before .before .before .before .before .before .before .before .before .before .before .before .before .shared-slice-known2 .given j)) (p .1 .1 .1 .1 .1 .1) in
+    let can-hold = vote-storable r (a .id .now) (a .signer) o l (p .1 .1 .1 .1 .0) (λ j. omega (arith, c .before .before .before .before .before .before .before .before .before .before .before .before .before .before .shared-slice-known2 .given j)) (p .1 .1 .1 .1 .1 .1 .1) in
     let typed = read-typed b (λ j. omega (arith, c .before .before .before .before .before .before .before .before .before .before .before .before .before .before .before .before .slice-known .given j)) (p .0) in (
       kept-long b t (c .before .before .before .before .hold-vote .ensures .1) (p .0),
-      (new-masks r (roundIn t) h (a .masks .now) g (p .1 .0), new-answers r (a .id .now) (a .reply .now) can typed h can-hold (p .1 .1 .0 .1) (roundIn t) (c .before .before .before .before .before .before .before .before .before .size .result) g n),
+      (new-masks r (roundIn t) h (a .masks .now) g (p .1 .0), (new-worked r typed (fits-out r (can .fit)) (held-room r (a .id .now) (a .reply .now) can) h can-hold (roundIn t) (c .before .before .before .before .before .before .before .before .before .size .result) g n (a .notes) (p .1 .1 .0), new-answers r (a .id .now) (a .reply .now) can typed h can-hold (p .1 .1 .1 .0 .1) (roundIn t) (c .before .before .before .before .before .before .before .before .before .size .result) g n)),
     )
 
 same-length : tie.Need-same-length
@@ -87,7 +88,7 @@ returns c =
     let b = a .s .now in
     let r = roundIn b in
     let p = c .before .before .before .before .before .before .before .before .before .before .before .before .before .before .before .before .before .before .before .before .before .before .pre in
-    let can = p .1 .1 .0 .0 in
+    let can = p .1 .1 .1 .0 .0 in
     let n : c .before .before .before .before .before .before .before .before .before .before .before .before .before .before .size .result ≡ r .held = c .before .before .before .before .before .before .before .before .before .before .before .before .before .before .size .ensures .0 in
     let l = take (a .count) (a .places .now) in
     let o = previousIn (a .bytes .now) (a .previous) in
@@ -95,8 +96,8 @@ returns c =
     let t = c .before .before .before .before .before .before .before .before .before .hold-vote .last .0 in
     let q : c .before .before .before .before .before .before .before .before .before .before .before .previous-place .result ≡ previousPlace r o = c .before .before .before .before .before .before .before .before .before .before .before .previous-place .ensures ∙ ap (λ (k : ℕ). previousPlaceIn (r .ids) k o) n ∙ sym (previous-lent r o) in
     let g : roundIn t ≡ hold r h 1 = c .before .before .before .before .before .before .before .before .before .hold-vote .ensures .0 o q in
-    let x = c .before .before .before .before .process in (
-      enters-new sha256 r (roundIn t) (a .id .now) h (c .before .before .before .before .before .before .before .before .before .before .before .before .before .before .size .result) (left (x .result) (x .last .0)) (a .reply .now) (x .last .1 .1 .1 .0) g n (p .1 .1 .0 .1) (x .ensures .0),
+    let x = c .before .before .before .before .process-new in (
+      enters-new sha256 r (roundIn t) (a .id .now) h (c .before .before .before .before .before .before .before .before .before .before .before .before .before .before .size .result) (left (x .result) (x .last .0)) (a .reply .now) (x .last .1 .1 .1 .1 .0) g n (p .1 .1 .1 .0 .1) (x .ensures .0),
       kept-on b t (x .last .0) (c .before .before .before .before .before .before .before .before .before .hold-vote .ensures .1) (x .ensures .1),
     )
 
@@ -111,7 +112,7 @@ add-vote-spec =
     part-previous-place-end
     previous-place-requires
     hold-vote-requires
-    process-requires
+    process-new-requires
     same-length
     same-length-2
     returns)

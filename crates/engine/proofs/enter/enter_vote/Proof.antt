@@ -13,6 +13,7 @@ use Rattle.steps.proofs.Lent.{place-of, found-at, found-nothing}
 use Rattle.engine.specs.Giving.{left}
 use Rattle.engine.proofs.Replying.{kept-on, kept-long}
 use Rattle.engine.proofs.Entering.{back-answers, back-masks, enters-back}
+use Rattle.engine.proofs.Keeping.{worked-back}
 use borrow.Author.Needs.{needs}
 use native.Mathlib.Omega.{arith}
 use Rattle.engine.proofs.enter.enter_vote.Statement.{statement}
@@ -40,9 +41,9 @@ place-of-requires c κs =
     let r = roundIn b in
     let p = c .before .before .before .before .before .before .before .before .before .before .pre in
     let n : c .before .before .size .result ≡ r .held = c .before .before .size .ensures .0 in
-    let m = fits-out r (p .1 .1 .0 .fit) .most in
+    let m = fits-out r (p .1 .1 .1 .0 .fit) .most in
     let l = p .0 in
-    (omega arith, (part-length 4096 b 1462 (omega arith), p .1 .1 .1 .0))
+    (omega arith, (part-length 4096 b 1462 (omega arith), p .1 .1 .1 .1 .0))
 
 enum-known-p : tie.Need-enum-known-p
 enum-known-p c = search needs
@@ -56,12 +57,12 @@ returned-requires c κs =
     let n : c .before .before .before .before .before .before .before .size .result ≡ r .held = c .before .before .before .before .before .before .before .size .ensures .0 in
     let k = c .before .before .p .given .0 .0 in
     let at = found-at (r .ids) (c .before .before .before .before .before .before .before .size .result) (a .id .now) (c .before .before .before .before .place-of .result) k (c .before .before .before .before .place-of .ensures) (c .before .before .p .given .1) in
-    let m = fits-out r (p .1 .1 .0 .fit) .most in
+    let m = fits-out r (p .1 .1 .1 .0 .fit) .most in
     let i = at .1 in
     (p .0, omega arith)
 
-process-requires : tie.Need-process-requires
-process-requires c κs =
+process-by-requires : tie.Need-process-by-requires
+process-by-requires c κs =
     let a = c .before .before .before .before .before .before .before .before .before .before .before .before .before .before .before .before .before .before .before .before .args in
     let b = a .s .now in
     let r = roundIn b in
@@ -72,7 +73,7 @@ process-requires c κs =
     let e : placeOf r (a .id .now) ≡ some k = place-of r (a .id .now) ∙ ap (λ (k : ℕ). placeIn (r .ids) k (a .id .now)) (sym n) ∙ at .0 in
     let t = c .before .before .before .before .returned .last .0 in
     let g = c .before .before .before .before .returned .ensures in
-    (kept-long b t (g .1) (p .0), (back-masks r (roundIn t) k (a .masks .now) (g .0) (p .1 .0), back-answers r (a .id .now) (a .reply .now) (p .1 .1 .0) k e (roundIn t) (g .0)))
+    (kept-long b t (g .1) (p .0), (back-masks r (roundIn t) k (a .masks .now) (g .0) (p .1 .0), (worked-back r (roundIn t) k (g .0) (a .notes) (p .1 .1 .0), back-answers r (a .id .now) (a .reply .now) (p .1 .1 .1 .0) k e (roundIn t) (g .0))))
 
 enum-told : tie.Need-enum-told
 enum-told c = search needs
@@ -86,7 +87,7 @@ add-vote-requires c κs =
     let n : c .before .before .before .before .before .before .before .size .result ≡ r .held = c .before .before .before .before .before .before .before .size .ensures .0 in
     let e : placeOf r (a .id .now) ≡ none =
     place-of r (a .id .now) ∙ ap (λ (k : ℕ). placeIn (r .ids) k (a .id .now)) (sym n) ∙ found-nothing (r .ids) (c .before .before .before .before .before .before .before .size .result) (a .id .now) (c .before .before .before .before .place-of .result) (c .before .before .before .before .place-of .ensures) (c .before .before .enum-told .given .1) in
-    (p .0, (p .1 .0, ((p .1 .1 .0, e), p .1 .1 .1)))
+    (p .0, (p .1 .0, (p .1 .1 .0, ((p .1 .1 .1 .0, e), p .1 .1 .1 .1))))
 
 same-length : tie.Need-same-length
 same-length c = search needs
@@ -106,8 +107,8 @@ returns c =
     let e : placeOf r (a .id .now) ≡ some k = place-of r (a .id .now) ∙ ap (λ (k : ℕ). placeIn (r .ids) k (a .id .now)) (sym n) ∙ at .0 in
     let t = c .before .before .before .before .before .before .before .before .before .returned .last .0 in
     let g = c .before .before .before .before .before .before .before .before .before .returned .ensures in
-    let o = c .before .before .before .before .process in (
-      enters-back sha256 r (roundIn t) (a .id .now) (says (a .id .now) (a .signer) (previousIn (a .bytes .now) (a .previous)) (take (a .count) (a .places .now))) k (left (o .result) (o .last .0)) (a .reply .now) (o .last .1 .1 .1 .0) (g .0) e (o .ensures .0),
+    let o = c .before .before .before .before .process-by in (
+      enters-back sha256 r (roundIn t) (a .id .now) (says (a .id .now) (a .signer) (previousIn (a .bytes .now) (a .previous)) (take (a .count) (a .places .now))) k (left (o .result) (o .last .0)) (a .reply .now) (o .last .1 .1 .1 .1 .0) (g .0) e (o .ensures .0),
       kept-on b t (o .last .0) (g .1) (o .ensures .1),
     )
 
@@ -132,7 +133,7 @@ enter-vote-spec =
     place-of-requires
     enum-known-p
     returned-requires
-    process-requires
+    process-by-requires
     enum-told
     add-vote-requires
     same-length

@@ -6,16 +6,13 @@ use Rattle.derive.specs.Records.{Fit}
 use Rattle.round.specs.Held.{named}
 use Rattle.round.proofs.Fitting.{fits-out}
 use Rattle.roundbytes.specs.Layout.{roundIn}
-use Rattle.engine.proofs.Worked.{fit-lent, work-asked, notes-lent, indexes-lent, judged-lent, sizes-in, read-most, places-below}
+use Rattle.engine.proofs.Worked.{fit-lent, work-asked, notes-lent, judged-lent, sizes-in, read-most, places-below}
 use borrow.Author.Needs.{needs}
 use Rattle.engine.proofs.judge.judge.Statement.{statement}
 use Rattle.engine.proofs.judge.judge.Tie as tie
 
 shared-slice-read-acceptors : tie.Need-shared-slice-read-acceptors
 shared-slice-read-acceptors c = search needs
-
-notes-of-requires : tie.Need-notes-of-requires
-notes-of-requires c κs = search needs
 
 shared-slice-read-size : tie.Need-shared-slice-read-size
 shared-slice-read-size c = search needs
@@ -76,13 +73,12 @@ part-note-new-end-5 c = search needs
 
 note-new-requires : tie.Need-note-new-requires
 note-new-requires c κs =
-    let a = c .before .before .before .before .before .before .before .before .before .before .before .before .before .before .before .before .before .before .before .before .before .before .before .before .before .before .before .before .before .before .before .before .before .before .before .before .before .before .before .before .before .before .before .args in
-    let p = c .before .before .before .before .before .before .before .before .before .before .before .before .before .before .before .before .before .before .before .before .before .before .before .before .before .before .before .before .before .before .before .before .before .before .before .before .before .before .before .before .before .before .before .pre in
+    let a = c .before .before .before .before .before .before .before .before .before .before .before .before .before .before .before .before .before .before .before .before .before .before .before .before .before .before .before .before .before .before .before .before .before .before .before .before .before .before .before .before .before .before .args in
+    let p = c .before .before .before .before .before .before .before .before .before .before .before .before .before .before .before .before .before .before .before .before .before .before .before .before .before .before .before .before .before .before .before .before .before .before .before .before .before .before .before .before .before .before .pre in
     let s = a .s .now in
     let r = roundIn s in
     let l = c .before .before .before .before .before .before .before .before .before .before .before .before .before .before .before .before .before .before .before .before .before .before .before .before .before .before .before .before .before .before .before .before .before .before .before .size in
     let n = c .before .before .before .before .before .before .before .before .before .before .before .before .before .before .before .before .before .before .before .before .before .before .before .before .before .before .before .before .before .before .before .before .before .size2 in
-    let x = c .before .before .before .before .before .before .before .before .before .before .before .before .before .before .before .before .before .before .before .before .before .before .before .before .before .before .before .before .before .before .before .before .before .before .before .before .before .notes-of in
     let f = fits-out r (p .1 .1 .0) in
     let z = sizes-in s (p .0) in
     let w = work-asked r (l .result) (n .result) (a .masks .now) (r .ballots) (l .ensures .0) (n .ensures .0) (p .1 .0) refl f z in (
@@ -105,38 +101,36 @@ note-new-requires c κs =
           learnedFit = c .before .before .before .before .before .before .before .before .before .before .before .before .before .note-new-arg19 .given .0;
           freshFit = c .before .before .before .before .before .before .before .before .before .before .before .note-new-arg21 .given .0;
           formsFit = c .before .before .before .before .before .before .before .before .before .note-new-arg23 .given .0;
-          placesFit = places-below (a .places .now) (r .held) (f .most) (p .1 .1 .1 .1);
+          placesFit = places-below (a .places .now) (r .held) (f .most) (p .1 .1 .1 .1 .1);
         },
-        (c .before .before .before .before .before .before .before .note-new-arg25 .given .0, (c .before .before .before .before .before .note-new-arg27 .given .0, indexes-lent r (l .result) (n .result) (a .masks .now) (r .ballots) (l .ensures .0) (n .ensures .0) (p .1 .0) refl (x .result) (x .ensures .1))),
+        (c .before .before .before .before .before .before .before .note-new-arg25 .given .0, (c .before .before .before .before .before .note-new-arg27 .given .0, notes-lent r (l .result) (n .result) (a .masks .now) (r .ballots) (l .ensures .0) (n .ensures .0) (p .1 .0) refl (a .t3) (p .1 .1 .1 .0) .1)),
       ),
     )
 
 returns : tie.Need-returns
 returns c =
-    let a = c .before .before .before .before .before .before .before .before .before .before .before .before .before .before .before .before .before .before .before .before .before .before .before .before .before .before .before .before .before .before .before .before .before .before .before .before .before .before .before .before .before .before .before .before .args in
-    let p = c .before .before .before .before .before .before .before .before .before .before .before .before .before .before .before .before .before .before .before .before .before .before .before .before .before .before .before .before .before .before .before .before .before .before .before .before .before .before .before .before .before .before .before .before .pre in
+    let a = c .before .before .before .before .before .before .before .before .before .before .before .before .before .before .before .before .before .before .before .before .before .before .before .before .before .before .before .before .before .before .before .before .before .before .before .before .before .before .before .before .before .before .before .args in
+    let p = c .before .before .before .before .before .before .before .before .before .before .before .before .before .before .before .before .before .before .before .before .before .before .before .before .before .before .before .before .before .before .before .before .before .before .before .before .before .before .before .before .before .before .before .pre in
     let s = a .s .now in
     let r = roundIn s in
     let l = c .before .before .before .before .before .before .before .before .before .before .before .before .before .before .before .before .before .before .before .before .before .before .before .before .before .before .before .before .before .before .before .before .before .before .before .before .size in
     let n = c .before .before .before .before .before .before .before .before .before .before .before .before .before .before .before .before .before .before .before .before .before .before .before .before .before .before .before .before .before .before .before .before .before .before .size2 in
-    let x = c .before .before .before .before .before .before .before .before .before .before .before .before .before .before .before .before .before .before .before .before .before .before .before .before .before .before .before .before .before .before .before .before .before .before .before .before .before .before .notes-of in
     let e = l .ensures .0 in
     let g : n .result ≡ r .held = n .ensures .0 in
-    let noted = notes-lent r (l .result) (n .result) (a .masks .now) (r .ballots) e g (p .1 .0) refl (x .result) (x .ensures .0) in
+    let noted = notes-lent r (l .result) (n .result) (a .masks .now) (r .ballots) e g (p .1 .0) refl (a .t3) (p .1 .1 .1 .0) in
     judged-lent r (l .result) (n .result) (a .masks .now) (r .ballots) e g (p .1 .0) refl (says (a .id .now) (a .signer) (named r (a .previous)) (a .places .now)) (c .note-new .result)
     (c .note-new .ensures (r .ballots) (r .counts) (r .references)
     (subst (λ (k : ℕ). Fit k (r .kinds) (r .previous) (r .counts) (r .references)) (sym g) (fit-lent r (fits-out r (p .1 .1 .0))))
-    (noted .0)
-    (subst (λ (k : ℕ). (a .previous ≡ 255) ⊎ (a .previous < k)) (sym g) (p .1 .1 .1 .0))
-    (λ j k. subst (λ (x : ℕ). j < x) (sym g) (p .1 .1 .1 .1 j k))
-    (noted .1))
+    (noted .0 .0)
+    (subst (λ (k : ℕ). (a .previous ≡ 255) ⊎ (a .previous < k)) (sym g) (p .1 .1 .1 .1 .0))
+    (λ j k. subst (λ (x : ℕ). j < x) (sym g) (p .1 .1 .1 .1 .1 j k))
+    (noted .0 .1))
 
 pub judge-spec : {M : Type 1} → statement M
 judge-spec =
     tie.close
     (tie.spec
     shared-slice-read-acceptors
-    notes-of-requires
     shared-slice-read-size
     size-requires
     shared-slice-read-size-2

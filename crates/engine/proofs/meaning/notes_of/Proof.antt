@@ -1,6 +1,6 @@
 use Rattle.round.proofs.Fitting.{fits-out}
 use Rattle.roundbytes.specs.Layout.{roundIn}
-use Rattle.engine.proofs.Worked.{work-asked, notes-read, indexes-read, sizes-in, within}
+use Rattle.engine.proofs.Worked.{work-asked, notes-read, sizes-in, within}
 use borrow.Author.Needs.{needs}
 use native.Mathlib.Omega.{arith}
 use Rattle.engine.proofs.meaning.notes_of.Statement.{statement}
@@ -110,10 +110,8 @@ returns c =
     let l = c .before .before .before .before .before .before .before .before .before .before .before .before .size in
     let n = c .before .before .before .before .before .before .before .before .before .before .size2 in
     let b = c .before .before .before .before .before .before .before .before .before .ballots-in in
-    let w = c .work-out in (
-      notes-read r (l .result) (n .result) (a .masks .now) (b .result) (l .ensures .0) (n .ensures .0) (p .1 .0) (b .ensures) (w .result) (w .ensures .0),
-      indexes-read r (l .result) (n .result) (a .masks .now) (b .result) (l .ensures .0) (n .ensures .0) (p .1 .0) (b .ensures) (w .result) (w .ensures .1),
-    )
+    let w = c .work-out in
+    notes-read r (l .result) (n .result) (a .masks .now) (b .result) (l .ensures .0) (n .ensures .0) (p .1 .0) (b .ensures) (w .result) (w .ensures .0, w .ensures .1)
 
 pub notes-of-spec : {M : Type 1} → statement M
 notes-of-spec =

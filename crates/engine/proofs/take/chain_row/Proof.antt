@@ -1,4 +1,4 @@
-use mathlib.Core.Path.{sym, subst, _∙_}
+use mathlib.Core.Path.{_≡_, sym, subst, _∙_}
 use Prim.Native.Nat.{ℕ, _+_, _*_, _≤_}
 use lib.ListN.{length}
 use borrow.Author.Tests.{not-false}
@@ -62,7 +62,8 @@ returns c =
     let lacking = lacks-worked r b (a .m) (n .result) (at .result) (n .ensures .0) (at .ensures .0) (found .result .known) (found .ensures .0) in
     let l = lacks r (referenceIds b (a .m)) in
     let u = unchained r (a .m .signer) (referenceIds b (a .m)) (previousId b (a .m)) in
-    (chain-lacks l u (sym lacking ∙ c .if1 .taken), λ h. absurd (applies-clear Reference h))
+    let whole : length (found .result .places) ≡ 128 = search needs in
+    (chain-lacks l u (sym lacking ∙ c .if1 .taken), (λ h. absurd (applies-clear Reference h), whole))
 
 sub-is-unchained : tie.Need-sub-is-unchained
 sub-is-unchained c = search needs
@@ -105,7 +106,8 @@ returns-2 c =
     let l = lacks r (referenceIds b (a .m)) in
     let u = unchained r (a .m .signer) (referenceIds b (a .m)) (previousId b (a .m)) in
     let apart = unchained-worked r b (a .m) (n .result) (at .result) (n .ensures .0) (at .ensures .0) (c .before .is-unchained .result) (c .before .is-unchained .ensures) in
-    (chain-apart l u (sym lacking ∙ c .before .before .before .before .if1 .left) (sym apart ∙ c .if2 .taken), λ h. absurd (applies-clear Previous h))
+    let whole : length (found .result .places) ≡ 128 = search needs in
+    (chain-apart l u (sym lacking ∙ c .before .before .before .before .if1 .left) (sym apart ∙ c .if2 .taken), (λ h. absurd (applies-clear Previous h), whole))
 
 returns-3 : tie.Need-returns-3
 returns-3 c =
@@ -120,7 +122,8 @@ returns-3 c =
     let l = lacks r (referenceIds b (a .m)) in
     let u = unchained r (a .m .signer) (referenceIds b (a .m)) (previousId b (a .m)) in
     let apart = unchained-worked r b (a .m) (n .result) (at .result) (n .ensures .0) (at .ensures .0) (c .before .is-unchained .result) (c .before .is-unchained .ensures) in
-    (chain-clear l u (sym lacking ∙ c .before .before .before .before .if1 .left) (sym apart ∙ c .if2 .left), λ h. found .ensures .1 (not-false _ (c .before .before .before .before .if1 .left)) ∙ places-worked r b (a .m) (n .result) (at .result) (n .ensures .0) (at .ensures .0))
+    let whole : length (found .result .places) ≡ 128 = search needs in
+    (chain-clear l u (sym lacking ∙ c .before .before .before .before .if1 .left) (sym apart ∙ c .if2 .left), (λ h. found .ensures .1 (not-false _ (c .before .before .before .before .if1 .left)) ∙ places-worked r b (a .m) (n .result) (at .result) (n .ensures .0) (at .ensures .0), whole))
 
 pub chain-row-spec : {M : Type 1} → statement M
 chain-row-spec =

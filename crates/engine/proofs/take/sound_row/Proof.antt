@@ -43,7 +43,7 @@ previous-place-requires c κs =
     let s = a .s .now in
     let r = roundIn s in
     let n = c .before .size in
-    (read-most (n .result) (r .held) 128 (n .ensures .0) (fits-out r (p .1 .1 .0) .most), (sizes-in s (p .0) .ids, p .1 .1 .1 .1 .0))
+    (read-most (n .result) (r .held) 128 (n .ensures .0) (fits-out r (p .1 .1 .0) .most), (sizes-in s (p .0) .ids, p .1 .1 .1 .1 .1 .0))
 
 sub-judge : tie.Need-sub-judge
 sub-judge c = search needs
@@ -62,10 +62,10 @@ judge-requires c κs =
     let r = roundIn s in
     let o = previousIn (a .bytes .now) (a .previous) in
     let at = c .before .previous-place .result in
-    let refers = p .1 .1 .1 .1 .1 .1 in
+    let refers = p .1 .1 .1 .1 .1 .1 .1 in
     let q : at ≡ previousPlace r o = c .before .previous-place .ensures ∙ ap (λ (k : ℕ). previousPlaceIn (r .ids) k o) (c .before .before .before .size .ensures .0) ∙ sym (previous-lent r o) in
     let l : take (a .count - 0) (drop 0 (a .places .now)) ≡ take (a .count) (a .places .now) = front-part (a .count) (a .places .now) in
-    (p .0, (p .1 .0, (p .1 .1 .0, (subst (λ (k : ℕ). (k ≡ 255) ⊎ (k < r .held)) (sym q) (place-cases r (previousPlace r o) (refers .placed)), λ j k. refers .earlier j (subst (λ (y : List ℕ). j ∈ y) l k)))))
+    (p .0, (p .1 .0, (p .1 .1 .0, (p .1 .1 .1 .0, (subst (λ (k : ℕ). (k ≡ 255) ⊎ (k < r .held)) (sym q) (place-cases r (previousPlace r o) (refers .placed)), λ j k. refers .earlier j (subst (λ (y : List ℕ). j ∈ y) l k))))))
 
 lacks-room-requires : tie.Need-lacks-room-requires
 lacks-room-requires c κs =
@@ -73,7 +73,7 @@ lacks-room-requires c κs =
     let p = c .before .before .before .before .before .before .before .before .before .before .before .pre in
     let s = a .s .now in
     let r = roundIn s in
-    (p .0, (fits-out r (p .1 .1 .0) .most, p .1 .1 .1 .0))
+    (p .0, (fits-out r (p .1 .1 .0) .most, p .1 .1 .1 .1 .0))
 
 form-row-requires : tie.Need-form-row-requires
 form-row-requires c κs = search needs
@@ -86,7 +86,7 @@ returns c =
     let r = roundIn s in
     let o = previousIn (a .bytes .now) (a .previous) in
     let at = c .before .before .before .before .previous-place .result in
-    let refers = p .1 .1 .1 .1 .1 .1 in
+    let refers = p .1 .1 .1 .1 .1 .1 .1 in
     let q : at ≡ previousPlace r o = c .before .before .before .before .previous-place .ensures ∙ ap (λ (k : ℕ). previousPlaceIn (r .ids) k o) (c .before .before .before .before .before .before .size .ensures .0) ∙ sym (previous-lent r o) in
     let l : take (a .count - 0) (drop 0 (a .places .now)) ≡ take (a .count) (a .places .now) = front-part (a .count) (a .places .now) in
     let i = a .id .now in

@@ -82,29 +82,35 @@ enum-told-2 c = search needs
 masks-in-requires : tie.Need-masks-in-requires
 masks-in-requires c κs = search needs
 
+slice-aggregate-notes-of : tie.Need-slice-aggregate-notes-of
+slice-aggregate-notes-of c = search needs
+
+notes-of-requires : tie.Need-notes-of-requires
+notes-of-requires c κs = search needs
+
 slice-aggregate-sound-row : tie.Need-slice-aggregate-sound-row
 slice-aggregate-sound-row c = search needs
 
 slice-aggregate-sound-row-2 : tie.Need-slice-aggregate-sound-row-2
-slice-aggregate-sound-row-2 c = search needs
+slice-aggregate-sound-row-2 c = sym (c .before .before .before .before .before .before .before .before .before .before .before .chain-row .ensures .1 .1)
 
 sound-row-requires : tie.Need-sound-row-requires
 sound-row-requires c κs =
-    let whole : length (c .before .before .before .before .before .before .before .before .chain-row .result .places) ≡ 128 = search needs in
-    let a = c .before .before .before .before .before .before .before .before .before .before .before .before .before .before .before .before .before .before .args in
-    let p = c .before .before .before .before .before .before .before .before .before .before .before .before .before .before .before .before .before .before .pre in
+    let whole : length (c .before .before .before .before .before .before .before .before .before .before .before .chain-row .result .places) ≡ 128 = c .before .before .before .before .before .before .before .before .before .before .before .chain-row .ensures .1 .1 in
+    let a = c .before .before .before .before .before .before .before .before .before .before .before .before .before .before .before .before .before .before .before .before .before .args in
+    let p = c .before .before .before .before .before .before .before .before .before .before .before .before .before .before .before .before .before .before .before .before .before .pre in
     let s = a .s .now in
     let r = roundIn s in
     let i = a .id .now in
     let b = a .bytes .now in
-    let z = c .before .before .before .before .before .before .before .before .chain-row in
+    let z = c .before .before .before .before .before .before .before .before .before .before .before .chain-row in
     let l = take (a .m .count) (z .result .places) in
-    let q = z .ensures .1 (c .before .before .before .before .before .enum-told2 .given .1) in
+    let q = z .ensures .1 .0 (c .before .before .before .before .before .before .before .before .enum-told2 .given .1) in
     let w = references-within b (a .m) (p .1 .1 .1 .0) in
     let few : a .m .count ≤ length (z .result .places) = fewer (a .m .count) 128 (z .result .places) (w .0) whole in
-    let clear = row-clear (chains r i b (a .m)) (sym (z .ensures .0) ∙ c .before .before .before .before .before .enum-told2 .given .1) in
+    let clear = row-clear (chains r i b (a .m)) (sym (z .ensures .0) ∙ c .before .before .before .before .before .before .before .before .enum-told2 .given .1) in
     let to = referring b (a .m) (p .1 .1 .1 .0) r (fits-out r (p .1 .0)) l (length-take-le (a .m .count) (z .result .places) few) q clear in
-    (p .0, (c .before .before .before .masks-in .ensures, (p .1 .0, (p .1 .1 .0, (previous-within b (a .m) (p .1 .1 .1 .0), (few, to))))))
+    (p .0, (c .before .before .before .before .before .before .masks-in .ensures, (p .1 .0, (c .before .before .before .notes-of .ensures, (p .1 .1 .0, (previous-within b (a .m) (p .1 .1 .1 .0), (few, to)))))))
 
 enum-known-sound : tie.Need-enum-known-sound
 enum-known-sound c = search needs
@@ -114,7 +120,7 @@ same-length-3 c = search needs
 
 returns-3 : tie.Need-returns-3
 returns-3 c =
-    let a = c .before .before .before .before .before .before .before .before .before .before .before .before .before .before .before .before .before .before .before .before .before .before .args in
+    let a = c .before .before .before .before .before .before .before .before .before .before .before .before .before .before .before .before .before .before .before .before .before .before .before .before .before .args in
     let s = a .s .now in
     let r = roundIn s in
     let i = a .id .now in
@@ -122,12 +128,12 @@ returns-3 c =
     let h = voteRecord r i (a .m .signer) (previousId b (a .m)) (referenceIds b (a .m)) in
     let o = rows r i b (a .m) in
     let e = c .before .sound .given .0 .0 in
-    let z = c .before .before .before .before .before .before .before .before .before .before .before .before .chain-row in
+    let z = c .before .before .before .before .before .before .before .before .before .before .before .before .before .before .before .chain-row in
     let l = take (a .m .count) (z .result .places) in
-    let q = z .ensures .1 (c .before .before .before .before .before .before .before .before .before .enum-told2 .given .1) in
-    let y = c .before .before .before .before .before .before .before .before .before .before .before .before .before .before .before .before .head-row in
+    let q = z .ensures .1 .0 (c .before .before .before .before .before .before .before .before .before .before .before .before .enum-told2 .given .1) in
+    let y = c .before .before .before .before .before .before .before .before .before .before .before .before .before .before .before .before .before .before .before .head-row in
     let x = c .before .before .before .sound-row in
-    (taken-refused sha256 r i h o (left (Refused e) s) (a .reply .now) e (by-sound r i b (a .m) (y .result) (y .ensures) (c .before .before .before .before .before .before .before .before .before .before .before .before .before .before .enum-told .given .1) (z .result .row) (z .ensures .0) (c .before .before .before .before .before .before .before .before .before .enum-told2 .given .1) l q (x .result) (x .ensures) e (c .before .sound .given .1)) refl, (refl, refl))
+    (taken-refused sha256 r i h o (left (Refused e) s) (a .reply .now) e (by-sound r i b (a .m) (y .result) (y .ensures) (c .before .before .before .before .before .before .before .before .before .before .before .before .before .before .before .before .before .enum-told .given .1) (z .result .row) (z .ensures .0) (c .before .before .before .before .before .before .before .before .before .before .before .before .enum-told2 .given .1) l q (x .result) (x .ensures) e (c .before .sound .given .1)) refl, (refl, refl))
 
 enum-told-3 : tie.Need-enum-told-3
 enum-told-3 c = search needs
@@ -136,28 +142,28 @@ slice-aggregate-enter-vote : tie.Need-slice-aggregate-enter-vote
 slice-aggregate-enter-vote c = search needs
 
 slice-aggregate-enter-vote-2 : tie.Need-slice-aggregate-enter-vote-2
-slice-aggregate-enter-vote-2 c = search needs
+slice-aggregate-enter-vote-2 c = sym (c .before .before .before .before .before .before .before .before .before .before .before .before .before .before .before .before .before .chain-row .ensures .1 .1)
 
 enter-vote-requires : tie.Need-enter-vote-requires
 enter-vote-requires c κs =
-    let whole : length (c .before .before .before .before .before .before .before .before .before .before .before .before .before .before .before .chain-row .result .places) ≡ 128 = search needs in
-    let a = c .before .before .before .before .before .before .before .before .before .before .before .before .before .before .before .before .before .before .before .before .before .before .before .before .before .args in
-    let p = c .before .before .before .before .before .before .before .before .before .before .before .before .before .before .before .before .before .before .before .before .before .before .before .before .before .pre in
+    let whole : length (c .before .before .before .before .before .before .before .before .before .before .before .before .before .before .before .before .before .before .chain-row .result .places) ≡ 128 = c .before .before .before .before .before .before .before .before .before .before .before .before .before .before .before .before .before .before .chain-row .ensures .1 .1 in
+    let a = c .before .before .before .before .before .before .before .before .before .before .before .before .before .before .before .before .before .before .before .before .before .before .before .before .before .before .before .before .args in
+    let p = c .before .before .before .before .before .before .before .before .before .before .before .before .before .before .before .before .before .before .before .before .before .before .before .before .before .before .before .before .pre in
     let s = a .s .now in
     let r = roundIn s in
     let i = a .id .now in
     let b = a .bytes .now in
-    let z = c .before .before .before .before .before .before .before .before .before .before .before .before .before .before .before .chain-row in
+    let z = c .before .before .before .before .before .before .before .before .before .before .before .before .before .before .before .before .before .before .chain-row in
     let l = take (a .m .count) (z .result .places) in
-    let q = z .ensures .1 (c .before .before .before .before .before .before .before .before .before .before .before .before .enum-told2 .given .1) in
+    let q = z .ensures .1 .0 (c .before .before .before .before .before .before .before .before .before .before .before .before .before .before .before .enum-told2 .given .1) in
     let w = references-within b (a .m) (p .1 .1 .1 .0) in
     let few : a .m .count ≤ length (z .result .places) = fewer (a .m .count) 128 (z .result .places) (w .0) whole in
-    let clear = row-clear (chains r i b (a .m)) (sym (z .ensures .0) ∙ c .before .before .before .before .before .before .before .before .before .before .before .before .enum-told2 .given .1) in
+    let clear = row-clear (chains r i b (a .m)) (sym (z .ensures .0) ∙ c .before .before .before .before .before .before .before .before .before .before .before .before .before .before .before .enum-told2 .given .1) in
     let to = referring b (a .m) (p .1 .1 .1 .0) r (fits-out r (p .1 .0)) l (length-take-le (a .m .count) (z .result .places) few) q clear in
-    let y = c .before .before .before .before .before .before .before .before .before .before .before .before .before .before .before .before .before .before .before .head-row in
+    let y = c .before .before .before .before .before .before .before .before .before .before .before .before .before .before .before .before .before .before .before .before .before .before .head-row in
     let x = c .before .before .before .before .before .before .sound-row in
-    let n = by-none r i b (a .m) (y .result) (y .ensures) (c .before .before .before .before .before .before .before .before .before .before .before .before .before .before .before .before .before .enum-told .given .1) (z .result .row) (z .ensures .0) (c .before .before .before .before .before .before .before .before .before .before .before .before .enum-told2 .given .1) l q (x .result) (x .ensures) (c .before .before .before .before .enum-told3 .given .1) in
-    (p .0, (c .before .before .before .before .before .before .before .before .before .before .masks-in .ensures, (record { fit = p .1 .0; free = n .1; long = p .1 .1 .1 .1 }, (p .1 .1 .0, (previous-within b (a .m) (p .1 .1 .1 .0), (few, to))))))
+    let n = by-none r i b (a .m) (y .result) (y .ensures) (c .before .before .before .before .before .before .before .before .before .before .before .before .before .before .before .before .before .before .before .before .enum-told .given .1) (z .result .row) (z .ensures .0) (c .before .before .before .before .before .before .before .before .before .before .before .before .before .before .before .enum-told2 .given .1) l q (x .result) (x .ensures) (c .before .before .before .before .enum-told3 .given .1) in
+    (p .0, (c .before .before .before .before .before .before .before .before .before .before .before .before .before .masks-in .ensures, (c .before .before .before .before .before .before .before .before .before .before .notes-of .ensures, (record { fit = p .1 .0; free = n .1; long = p .1 .1 .1 .1 }, (p .1 .1 .0, (previous-within b (a .m) (p .1 .1 .1 .0), (few, to)))))))
 
 same-length-4 : tie.Need-same-length-4
 same-length-4 c = search needs
@@ -167,22 +173,22 @@ same-length-5 c = search needs
 
 returns-4 : tie.Need-returns-4
 returns-4 c =
-    let a = c .before .before .before .before .before .before .before .before .before .before .before .before .before .before .before .before .before .before .before .before .before .before .before .before .before .before .before .before .before .before .args in
+    let a = c .before .before .before .before .before .before .before .before .before .before .before .before .before .before .before .before .before .before .before .before .before .before .before .before .before .before .before .before .before .before .before .before .before .args in
     let s = a .s .now in
     let r = roundIn s in
     let i = a .id .now in
     let b = a .bytes .now in
     let h = voteRecord r i (a .m .signer) (previousId b (a .m)) (referenceIds b (a .m)) in
     let o = rows r i b (a .m) in
-    let z = c .before .before .before .before .before .before .before .before .before .before .before .before .before .before .before .before .before .before .before .before .chain-row in
+    let z = c .before .before .before .before .before .before .before .before .before .before .before .before .before .before .before .before .before .before .before .before .before .before .before .chain-row in
     let l = take (a .m .count) (z .result .places) in
-    let q = z .ensures .1 (c .before .before .before .before .before .before .before .before .before .before .before .before .before .before .before .before .before .enum-told2 .given .1) in
-    let y = c .before .before .before .before .before .before .before .before .before .before .before .before .before .before .before .before .before .before .before .before .before .before .before .before .head-row in
+    let q = z .ensures .1 .0 (c .before .before .before .before .before .before .before .before .before .before .before .before .before .before .before .before .before .before .before .before .enum-told2 .given .1) in
+    let y = c .before .before .before .before .before .before .before .before .before .before .before .before .before .before .before .before .before .before .before .before .before .before .before .before .before .before .before .head-row in
     let x = c .before .before .before .before .before .before .before .before .before .before .before .sound-row in
-    let n = by-none r i b (a .m) (y .result) (y .ensures) (c .before .before .before .before .before .before .before .before .before .before .before .before .before .before .before .before .before .before .before .before .before .before .enum-told .given .1) (z .result .row) (z .ensures .0) (c .before .before .before .before .before .before .before .before .before .before .before .before .before .before .before .before .before .enum-told2 .given .1) l q (x .result) (x .ensures) (c .before .before .before .before .before .before .before .before .before .enum-told3 .given .1) in
+    let n = by-none r i b (a .m) (y .result) (y .ensures) (c .before .before .before .before .before .before .before .before .before .before .before .before .before .before .before .before .before .before .before .before .before .before .before .before .before .enum-told .given .1) (z .result .row) (z .ensures .0) (c .before .before .before .before .before .before .before .before .before .before .before .before .before .before .before .before .before .before .before .before .enum-told2 .given .1) l q (x .result) (x .ensures) (c .before .before .before .before .before .before .before .before .before .enum-told3 .given .1) in
     let v = c .before .before .before .before .enter-vote in
     let d = left (v .result) (v .last .0) in
-    let after = v .last .1 .1 .1 .1 .1 .1 .1 .1 .0 in (
+    let after = v .last .1 .1 .1 .1 .1 .1 .1 .1 .1 .0 in (
       taken-entered sha256 r i h o d (a .reply .now) after (n .0)
           (subst (λ (k : List ℕ). Gives (entered sha256 r (recordTo r i b (a .m) k) (placeOf r i)) d (a .reply .now) after) (q ∙ sym (places-lent r (referenceIds b (a .m)))) (v .ensures .0)),
       v .ensures .1,
@@ -203,6 +209,8 @@ take-vote-spec =
     returns-2
     enum-told-2
     masks-in-requires
+    slice-aggregate-notes-of
+    notes-of-requires
     slice-aggregate-sound-row
     slice-aggregate-sound-row-2
     sound-row-requires

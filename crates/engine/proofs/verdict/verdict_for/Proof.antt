@@ -5,7 +5,7 @@ use Rattle.derive.specs.Deciding.{shown}
 use Rattle.derive.specs.Records.{recordIn}
 use Rattle.round.proofs.Fitting.{fits-out}
 use Rattle.roundbytes.specs.Layout.{roundIn}
-use Rattle.engine.proofs.Worked.{tableTo, work-asked, notes-lent, indexes-lent, reported-lent, sizes-in, read-most}
+use Rattle.engine.proofs.Worked.{tableTo, work-asked, notes-lent, reported-lent, sizes-in, read-most}
 use borrow.Author.Needs.{needs}
 use Rattle.engine.proofs.verdict.verdict_for.Statement.{statement}
 use Rattle.engine.proofs.verdict.verdict_for.Tie as tie
@@ -72,14 +72,14 @@ report-for-requires c κs =
     let r = roundIn s in
     let l = c .before .before .before .before .before .before .before .before .before .before .before .before .before .before .before .before .before .before .before .before .before .before .before .before .before .before .before .size in
     let n = c .before .before .before .before .before .before .before .before .before .before .before .before .before .before .before .before .before .before .before .before .before .before .before .before .before .size2 in
-    let x = c .before .before .before .before .before .before .before .before .before .before .before .before .before .before .before .before .before .before .before .before .before .before .before .before .before .before .before .before .before .notes-of in
     let f = fits-out r (p .1 .1 .0) in
     let z = sizes-in s (p .0) in
     let w = work-asked r (l .result) (n .result) (a .masks .now) (r .ballots) (l .ensures .0) (n .ensures .0) (p .1 .0) refl f z in
+    let x = c .before .before .before .before .before .before .before .before .before .before .before .before .before .before .before .before .before .before .before .before .before .before .before .before .before .before .before .before .before .notes-of in
+    let m = notes-lent r (l .result) (n .result) (a .masks .now) (r .ballots) (l .ensures .0) (n .ensures .0) (p .1 .0) refl (x .result) (x .ensures) .1 .1 in
     let most = read-most (n .result) (r .held) 128 (n .ensures .0) (f .most) in
     let below = subst (λ (k : ℕ). a .learner < k) (sym (l .ensures .0)) (p .1 .1 .1) in
-    let m = indexes-lent r (l .result) (n .result) (a .masks .now) (r .ballots) (l .ensures .0) (n .ensures .0) (p .1 .0) refl (x .result) (x .ensures .1) .1 in
-    (below, (w .1 .0, (w .0, (w .1 .1 .0, (most, (z .known, (search needs, (search needs, (search needs, (z .signers, record { byBallot = m .byBallot; byForm = m .byForm; keyLowFit = m .keyLowFit; keyHighFit = m .keyHighFit }))))))))))
+    (below, (w .1 .0, (w .0, (w .1 .1 .0, (most, (z .known, (c .before .before .before .before .report-for-arg20 .given .0, (c .before .before .before .before .before .before .before .before .report-for-arg16 .given .0, (c .before .before .before .before .before .before .before .before .before .before .report-for-arg14 .given .0, (z .signers, record { byBallot = m .byBallot; byForm = m .byForm; keyLowFit = m .keyLowFit; keyHighFit = m .keyHighFit }))))))))))
 
 returns : tie.Need-returns
 returns c =
@@ -92,8 +92,8 @@ returns c =
     let x = c .before .before .before .before .before .before .before .before .before .before .before .before .before .before .before .before .before .before .before .before .before .before .before .before .before .before .before .before .before .before .notes-of in
     let e = l .ensures .0 in
     let g = n .ensures .0 in
-    let noted = notes-lent r (l .result) (n .result) (a .masks .now) (r .ballots) e g (p .1 .0) refl (x .result) (x .ensures .0) in
-    c .report-for .ensures (tableTo r (n .result) (r .ballots)) (length-tabulate (n .result) (recordIn (r .ids) (r .kinds) (r .signers) (r .ballots) (r .previous) (r .counts) (r .references))) (noted .1)
+    let noted = notes-lent r (l .result) (n .result) (a .masks .now) (r .ballots) e g (p .1 .0) refl (x .result) (x .ensures) in
+    c .report-for .ensures (tableTo r (n .result) (r .ballots)) (length-tabulate (n .result) (recordIn (r .ids) (r .kinds) (r .signers) (r .ballots) (r .previous) (r .counts) (r .references))) (noted .0 .1)
     ∙ ap shown (reported-lent r (l .result) (n .result) (a .masks .now) (r .ballots) e g (p .1 .0) refl (a .learner))
 
 pub verdict-for-spec : {M : Type 1} → statement M
