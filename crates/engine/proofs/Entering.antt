@@ -24,7 +24,8 @@ use Rattle.round.proofs.Holding.{Storable}
 use Rattle.round.proofs.Growing.{hold-fitting, hold-appends, hold-same}
 use Rattle.round.proofs.Marking.{returned-fitting, previous-fits}
 use Rattle.round.proofs.Entering.{room-left, room-behind}
-use Rattle.engine.specs.Giving.{Gives, Answerable, Enterable, Referring}
+use Rattle.engine.specs.Giving.{Gives, Answerable, Enterable}
+use Rattle.judging.specs.Referring.{Referring}
 
 module _ (r : Round) (i : Id) (buffer : List ℕ) (can : Enterable r i buffer) where
   pub held-room : r .held < maxHeld

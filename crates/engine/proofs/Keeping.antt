@@ -29,8 +29,8 @@ use Rattle.round.proofs.Parts.{tabulate-cong}
 use Rattle.round.proofs.Fitting.{Fitting, Keeps, record-kept}
 use Rattle.round.proofs.Holding.{Storable}
 use Rattle.round.proofs.Growing.{hold-keeps, hold-appends, hold-same}
-use Rattle.engine.proofs.Worked.{fit-lent}
-use Rattle.engine.specs.Working.{WorkedTo, Worked}
+use Rattle.judging.proofs.Worked.{fit-lent}
+use Rattle.judging.specs.Working.{WorkedTo, Worked}
 
 module _ (r s : Round) (keeps : Keeps r s) where
   names-kept : (names : List ℕ) → Named (r .ids) (r .held) names → Named (s .ids) (r .held) names

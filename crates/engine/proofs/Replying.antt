@@ -20,7 +20,8 @@ use Rattle.round.proofs.Chosen.{chosen-out}
 use Rattle.roundbytes.specs.Layout.{roundLen, Kept}
 use Rattle.steps.specs.declared.reply.Reply.{Reply}
 use Rattle.steps.specs.Sender.{sender, filled, replyAs}
-use Rattle.engine.specs.Giving.{Gives, Earlier, Formed}
+use Rattle.engine.specs.Giving.{Gives, Formed}
+use Rattle.judging.specs.Referring.{Earlier}
 use Rattle.steps.proofs.Sender.{chosen-length, filled-front, filled-length, reply-places, reply-lent}
 
 abbrev pub lentBy : Round → ℕ → Round
@@ -47,10 +48,6 @@ formed r p l x buffer after e f g =
       most = omega arith;
       whole = λ h. ap length placed ∙ filled-length (replyPlaces r p) (omega arith);
     }
-
--- a part from the front
-pub front-part : (n : ℕ) (l : List ℕ) → take (n - 0) (drop 0 l) ≡ take n l
-front-part n l = let e : n - 0 ≡ n = omega arith in ap (λ (k : ℕ). take k l) e
 
 -- the places that a reply refers to are held
 pub refers-held : (r : Round) (p : ℕ) (l : List ℕ) → l ≡ replyPlaces r p → Earlier r l

@@ -1,17 +1,14 @@
--- The rows of a message in their order, as they are asked.
-use mathlib.Core.Path.{_≡_, refl, ap, sym, subst, _∙_}
+-- The rows of a proposal in their order, and a message that is refused by a row or entered.
+use mathlib.Core.Path.{_≡_, refl, sym, subst}
 use mathlib.Core.Bool.{Bool, true, false}
 use mathlib.Core.Option.{Option, none, some}
 use mathlib.Core.List.{List}
 use Prim.Native.Nat.{ℕ}
-use native.Mathlib.Omega.{arith}
 use Rattle.base.specs.Tests.{pick}
 use Rattle.base.specs.declared.refusal.Refusal.{Refusal}
-use Rattle.base.specs.declared.refusal.Refusal.the-variants.{OtherRound, Signer, Known, Reference, Previous, Full}
+use Rattle.base.specs.declared.refusal.Refusal.the-variants.{OtherRound, Known, Full}
 use Rattle.message.specs.declared.Proposal.{Proposal}
-use Rattle.message.specs.declared.AcceptorMessage.{AcceptorMessage}
 use Rattle.protocol.specs.Ids.{Id}
-use Rattle.protocol.specs.Message.{Message}
 use Rattle.protocol.specs.Table.{Held}
 use Rattle.round.specs.declared.Delivered.{Delivered}
 use Rattle.round.specs.Held.{placeOf}
@@ -19,82 +16,12 @@ use Rattle.round.specs.Delivery.{decidedBy, entered}
 use Rattle.engine.specs.Giving.{Gives, refusal}
 use Rattle.engine.proofs.Replying.{front-none}
 use Rattle.round.specs.declared.Round.{Round}
-use Rattle.round.specs.Rows.{otherRound, foreign, isKnownId, lacks, unchained, ungrounded, full, proposalRows, acceptorRows, firstOf}
-use Rattle.engine.specs.declared.take.Row.the-variants.{Clear, Applies}
-use Rattle.engine.specs.Turning.{rowOf, headRow, chainRow, soundRow}
+use Rattle.round.specs.Rows.{otherRound, isKnownId, full, proposalRows, firstOf}
 
 pub proposal-row : (r : Round) (i : Id) (m : Proposal)
     → firstOf (proposalRows r i m) ≡ pick (otherRound r (m .house) (m .bay)) (some OtherRound) (pick (isKnownId r i) (some Known) (pick (full r i) (some Full) none))
 unfolding proposalRows firstOf
 proposal-row r i m = refl
-
--- the first row that applies, of those of two parts
-abbrev pub orElse : Option Refusal → Option Refusal → Option Refusal
-orElse none o = o
-orElse (some e) o = some e
-
-pub acceptor-row : (r : Round) (i : Id) (m : AcceptorMessage) (previous : Option Id) (ids : List Id) (tree : Message)
-    → firstOf (acceptorRows r i m previous ids tree)
-    ≡ orElse (headRow r i (m .house) (m .bay) (m .signer)) (orElse (chainRow (lacks r ids) (unchained r (m .signer) ids previous)) (soundRow r i tree))
-unfolding acceptorRows firstOf ungrounded
-acceptor-row r i m previous ids tree =
-    head (otherRound r (m .house) (m .bay)) (foreign r (m .signer)) (isKnownId r i) _
-    ∙ ap (orElse (headRow r i (m .house) (m .bay) (m .signer))) (chain (lacks r ids) (unchained r (m .signer) ids previous) (soundRow r i tree))
-  where
-    head : (a b c : Bool) (o : Option Refusal)
-        → pick a (some OtherRound) (pick b (some Signer) (pick c (some Known) o)) ≡ orElse (pick a (some OtherRound) (pick b (some Signer) (pick c (some Known) none))) o
-    head true b c o = refl
-    head false true c o = refl
-    head false false true o = refl
-    head false false false o = refl
-
-    chain : (a b : Bool) (o : Option Refusal) → pick a (some Reference) (pick b (some Previous) o) ≡ orElse (chainRow a b) o
-    chain true b o = refl
-    chain false true o = refl
-    chain false false o = refl
-
--- a row that is told is the one that applies
-pub row-applies : (o : Option Refusal) (e : Refusal) → rowOf o ≡ Applies e → o ≡ some e
-row-applies none e h = absurd (let z : _≡_ {A = ℕ} 0 1 = cc in omega arith)
-row-applies (some x) e h = cc
-
-pub row-clear : (o : Option Refusal) → rowOf o ≡ Clear → o ≡ none
-row-clear none h = refl
-row-clear (some x) h = absurd (let z : _≡_ {A = ℕ} 0 1 = cc in omega arith)
-
-pub applies-clear : (e : Refusal) → Applies e ≡ Clear → ⊥
-applies-clear e h = let z : _≡_ {A = ℕ} 0 1 = cc in omega arith
-
--- ---- rows 8, 9 and 10: the first that applies is told
-module _ (a b c : Bool) where
-  pub head-other : a ≡ true → Applies OtherRound ≡ rowOf (pick a (some OtherRound) (pick b (some Signer) (pick c (some Known) none)))
-  head-other e = simp e
-
-  pub head-foreign : a ≡ false → b ≡ true → Applies Signer ≡ rowOf (pick a (some OtherRound) (pick b (some Signer) (pick c (some Known) none)))
-  head-foreign e f = simp (e, f)
-
-  pub head-known : a ≡ false → b ≡ false → c ≡ true → Applies Known ≡ rowOf (pick a (some OtherRound) (pick b (some Signer) (pick c (some Known) none)))
-  head-known e f g = simp (e, f, g)
-
-  pub head-clear : a ≡ false → b ≡ false → c ≡ false → Clear ≡ rowOf (pick a (some OtherRound) (pick b (some Signer) (pick c (some Known) none)))
-  head-clear e f g = simp (e, f, g)
-
--- ---- rows 11 and 12
-module _ (a b : Bool) where
-  pub chain-lacks : a ≡ true → Applies Reference ≡ rowOf (chainRow a b)
-  chain-lacks e = simp e
-
-  pub chain-apart : a ≡ false → b ≡ true → Applies Previous ≡ rowOf (chainRow a b)
-  chain-apart e f = simp (e, f)
-
-  pub chain-clear : a ≡ false → b ≡ false → Clear ≡ rowOf (chainRow a b)
-  chain-clear e f = simp (e, f)
-
--- where neither applies, no reference lacks, and the previous message is named rightly
-pub chain-none : (a b : Bool) → chainRow a b ≡ none → (a ≡ false) × (b ≡ false)
-chain-none true b e = absurd (let z : _≡_ {A = ℕ} 0 1 = cc in omega arith)
-chain-none false true e = absurd (let z : _≡_ {A = ℕ} 0 1 = cc in omega arith)
-chain-none false false e = (refl, refl)
 
 -- ---- rows 8, 10 and 16 of a proposal
 module _ (a b c : Bool) where

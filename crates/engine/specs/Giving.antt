@@ -1,12 +1,10 @@
 -- What the steps of a delivery answer and leave in the reply buffer.
 use mathlib.Core.Path.{_≡_}
 use mathlib.Core.Bool.{not}
-use mathlib.Core.Option.{Option}
 use mathlib.Core.List.{List}
 use Prim.Native.Nat.{ℕ, _≤_, _<_}
 use lib.Dec.{T}
 use lib.ListN.{length, take}
-use Rattle.base.specs.Tests.{_∈_}
 use Rattle.base.specs.declared.refusal.Refusal.{Refusal}
 use Rattle.message.specs.Writer.{fronted}
 use Rattle.protocol.specs.Ids.{Id}
@@ -15,11 +13,10 @@ use Rattle.round.specs.declared.Delivered.{Delivered}
 use Rattle.round.specs.declared.Outcome.{Outcome}
 use Rattle.round.specs.declared.Outcome.the-variants.{Accepted, Replied, Refused}
 use Rattle.round.specs.Limits.{maxHeld, listening, replyLen}
-use Rattle.round.specs.Held.{named}
-use Rattle.round.specs.Handed.{placeFits, fits}
+use Rattle.round.specs.Handed.{fits}
 use Rattle.round.specs.Rows.{full}
 use Rattle.round.specs.Reply.{replyPlaces, replyBytes}
-use Rattle.round.specs.Delivery.{Result, previousPlace}
+use Rattle.round.specs.Delivery.{Result}
 use Rattle.roundbytes.specs.Layout.{roundIn}
 use Rattle.steps.specs.declared.reply.Reply.{Reply}
 
@@ -49,10 +46,6 @@ pub record Answerable (r : Round) (p : ℕ) (buffer : List ℕ) : Type 0 where
   pub room : r .own < listening → r .held < maxHeld
   pub long : replyLen ≤ length buffer
 
--- places of held messages
-abbrev pub Earlier : Round → List ℕ → Type 0
-Earlier r places = (j : ℕ) → j ∈ places → j < r .held
-
 -- a reply to the message at place p that was formed in the front of a buffer
 pub record Formed (r : Round) (p : ℕ) (z : Reply) (buffer : List ℕ) : Type 0 where
   pub front : take (z .len) buffer ≡ replyBytes r p
@@ -75,11 +68,3 @@ pub record Enterable (r : Round) (i : Id) (buffer : List ℕ) : Type 0 where
   pub fit : T (fits r)
   pub free : T (not (full r i))
   pub long : replyLen ≤ length buffer
-
--- an acceptor message refers to 1 to 128 held messages, and its previous id is none or held
-pub record Referring (r : Round) (previous : Option Id) (places : List ℕ) : Type 0 where
-  pub least : 1 ≤ length places
-  pub most : length places ≤ maxHeld
-  pub earlier : Earlier r places
-  pub placed : T (placeFits r (previousPlace r previous))
-  pub named′ : named r (previousPlace r previous) ≡ previous

@@ -1,12 +1,12 @@
 // After acceptance: the reply to a message that the round holds, sent or not. The round stands in the bytes s.
-use crate::judge::judge;
-use crate::meaning::notes_more;
-use crate::meaning::notes_of;
 use base::put_all;
 use base::size;
 use derive::Notes;
 use digest::sha256;
 use graph::Mask;
+use judging::judge::judge;
+use judging::meaning::notes_more;
+use judging::meaning::notes_of;
 use round::Outcome;
 use roundbytes::BAY_AT;
 use roundbytes::HELD_AT;
@@ -35,8 +35,9 @@ ghost use Rattle.round.specs.Rows.{messageOf};
 ghost use Rattle.round.specs.Reply.{replyBytes, isSent};
 ghost use Rattle.round.specs.Delivery.{hold, withRecent, recentWith, answered, processed};
 ghost use Rattle.roundbytes.specs.Layout.{roundLen, roundIn, Kept};
-ghost use Rattle.engine.specs.Giving.{Gives, left, accepts, replies, Earlier, Formed, Sendable, Answerable};
-ghost use Rattle.engine.specs.Working.{WorkedTo, Worked};
+ghost use Rattle.engine.specs.Giving.{Gives, left, accepts, replies, Formed, Sendable, Answerable};
+ghost use Rattle.judging.specs.Referring.{Earlier};
+ghost use Rattle.judging.specs.Working.{WorkedTo, Worked};
 
 // Nothing is sent: the message at place p joins recent, unless it is a proposal.
 fn join(s: &mut [u8], p: usize) -> Outcome

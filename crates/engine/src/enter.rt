@@ -26,8 +26,9 @@ ghost use Rattle.round.specs.Held.{placeOf};
 ghost use Rattle.round.specs.Delivery.{entered};
 ghost use Rattle.roundbytes.specs.Layout.{roundLen, roundIn, Kept};
 ghost use Rattle.steps.specs.Lent.{previousIn};
-ghost use Rattle.engine.specs.Giving.{Gives, left, Enterable, Referring};
-ghost use Rattle.engine.specs.Working.{Worked};
+ghost use Rattle.engine.specs.Giving.{Gives, left, Enterable};
+ghost use Rattle.judging.specs.Referring.{Referring};
+ghost use Rattle.judging.specs.Working.{Worked};
 
 // A proposal that is not held goes behind the others.
 fn add_proposal<'a>(

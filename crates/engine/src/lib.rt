@@ -1,13 +1,13 @@
 // What runs a round: opening one, delivering a message to it, and reporting for a learner. The rules are those of the crate round.
 use crate::take::take_proposal;
 use crate::take::take_vote;
-use crate::verdict::answer_to;
-use crate::verdict::verdict_for;
 use base::refusal::Refusal;
 use base::size;
 use digest::sha256;
 use graph::Answer;
 use graph::read;
+use judging::verdict::answer_to;
+use judging::verdict::verdict_for;
 use message::Reading;
 use round::Delivered;
 use round::Opened;
@@ -24,10 +24,7 @@ use steps::start::refused_opening;
 
 mod answer;
 mod enter;
-mod judge;
-mod meaning;
 mod take;
-mod verdict;
 
 ghost use mathlib.Core.Path.{_≡_};
 ghost use Prim.Native.Nat.{_≤_};

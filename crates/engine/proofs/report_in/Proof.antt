@@ -8,8 +8,8 @@ use Rattle.derive.specs.Deciding.{shown}
 use Rattle.round.specs.Held.{graphOf, knownMessages}
 use Rattle.round.specs.Handed.{fits}
 use Rattle.roundbytes.specs.Layout.{roundIn}
-use Rattle.engine.specs.Telling.{answerTo}
-use Rattle.engine.proofs.Worked.{refused-round, refused-learner, reported-told, told-shown}
+use Rattle.judging.specs.Telling.{answerTo}
+use Rattle.judging.proofs.Worked.{refused-round, refused-learner, reported-told, told-shown}
 use borrow.Author.Needs.{needs}
 use Rattle.engine.proofs.report_in.Statement.{statement}
 use Rattle.engine.proofs.report_in.Tie as tie

@@ -12,7 +12,8 @@ use Rattle.round.specs.Delivery.{hold, withRecent, sent, joins}
 use Rattle.round.proofs.Fitting.{fits-out}
 use Rattle.roundbytes.specs.Layout.{roundIn}
 use Rattle.engine.specs.Giving.{left, replies}
-use Rattle.engine.proofs.Replying.{front-part, refers-held, put-front, gives-first, gives-second, front-none}
+use Rattle.judging.proofs.Ordered.{front-part}
+use Rattle.engine.proofs.Replying.{refers-held, put-front, gives-first, gives-second, front-none}
 use borrow.Author.Needs.{needs}
 use native.Mathlib.Omega.{arith}
 use Rattle.engine.proofs.answer.answer.Statement.{statement}

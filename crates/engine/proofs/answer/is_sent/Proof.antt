@@ -9,7 +9,8 @@ use Rattle.round.specs.Held.{graphOf, named}
 use Rattle.round.specs.Rows.{messageOf}
 use Rattle.round.proofs.Fitting.{fits-out, place-cases}
 use Rattle.roundbytes.specs.Layout.{roundIn}
-use Rattle.engine.proofs.Replying.{front-part, sent-judged}
+use Rattle.judging.proofs.Ordered.{front-part}
+use Rattle.engine.proofs.Replying.{sent-judged}
 use borrow.Author.Needs.{needs}
 use Rattle.engine.proofs.answer.is_sent.Statement.{statement}
 use Rattle.engine.proofs.answer.is_sent.Tie as tie

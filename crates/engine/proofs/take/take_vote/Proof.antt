@@ -12,8 +12,9 @@ use Rattle.round.proofs.Fitting.{fits-out}
 use Rattle.roundbytes.specs.Layout.{roundIn}
 use Rattle.steps.proofs.Lent.{places-lent}
 use Rattle.engine.specs.Giving.{Gives, left}
-use Rattle.engine.proofs.Taking.{row-clear, taken-refused, taken-entered}
-use Rattle.engine.proofs.Voting.{references-within, previous-within, fewer, referring, chains, recordTo, rows, by-head, by-chain, by-sound, by-none}
+use Rattle.judging.proofs.Ordered.{row-clear}
+use Rattle.engine.proofs.Taking.{taken-refused, taken-entered}
+use Rattle.judging.proofs.Voting.{references-within, previous-within, fewer, referring, chains, recordTo, rows, by-head, by-chain, by-sound, by-none}
 use borrow.Author.Needs.{needs}
 use Rattle.engine.proofs.take.take_vote.Statement.{statement}
 use Rattle.engine.proofs.take.take_vote.Tie as tie

@@ -1,0 +1,28 @@
+use mathlib.Core.Path.{ap, sym}
+use Rattle.judging.specs.Telling.{answerTo}
+use borrow.Author.Needs.{needs}
+use Rattle.judging.proofs.verdict.answer_to.Statement.{statement}
+use Rattle.judging.proofs.verdict.answer_to.Tie as tie
+
+enum-told : tie.Need-enum-told
+enum-told c = search needs
+
+enum-known-verdict : tie.Need-enum-known-verdict
+enum-known-verdict c = search needs
+
+enum-known-verdict-2 : tie.Need-enum-known-verdict-2
+enum-known-verdict-2 c = search needs
+
+returns : tie.Need-returns
+returns c = search needs
+
+returns-2 : tie.Need-returns-2
+returns-2 c = sym (ap answerTo (c .before .verdict .given .1))
+
+returns-3 : tie.Need-returns-3
+returns-3 c = sym (ap answerTo (c .before .verdict2 .given .1))
+
+pub answer-to-spec : {M : Type 1} → statement M
+answer-to-spec =
+    tie.close
+    (tie.spec enum-told enum-known-verdict enum-known-verdict-2 returns returns-2 returns-3)

@@ -1,0 +1,122 @@
+use mathlib.Core.Path.{refl, sym, subst, ap, _∙_}
+use Prim.Native.Nat.{ℕ, _<_}
+use Rattle.protocol.proofs.Growth.{length-tabulate}
+use Rattle.derive.specs.Deciding.{shown}
+use Rattle.derive.specs.Records.{recordIn}
+use Rattle.round.proofs.Fitting.{fits-out}
+use Rattle.roundbytes.specs.Layout.{roundIn}
+use Rattle.judging.proofs.Worked.{tableTo, work-asked, notes-lent, reported-lent, sizes-in, read-most}
+use borrow.Author.Needs.{needs}
+use Rattle.judging.proofs.verdict.verdict_for.Statement.{statement}
+use Rattle.judging.proofs.verdict.verdict_for.Tie as tie
+
+shared-slice-read-acceptors : tie.Need-shared-slice-read-acceptors
+shared-slice-read-acceptors c = search needs
+
+notes-of-requires : tie.Need-notes-of-requires
+notes-of-requires c κs = search needs
+
+shared-slice-read-size : tie.Need-shared-slice-read-size
+shared-slice-read-size c = search needs
+
+size-requires : tie.Need-size-requires
+size-requires c κs = search needs
+
+shared-slice-read-size-2 : tie.Need-shared-slice-read-size-2
+shared-slice-read-size-2 c = search needs
+
+size-requires-2 : tie.Need-size-requires-2
+size-requires-2 c κs = search needs
+
+sub-report-for : tie.Need-sub-report-for
+sub-report-for c = search needs
+
+part-report-for-start : tie.Need-part-report-for-start
+part-report-for-start c = search needs
+
+part-report-for-end : tie.Need-part-report-for-end
+part-report-for-end c = search needs
+
+sub-report-for-2 : tie.Need-sub-report-for-2
+sub-report-for-2 c = search needs
+
+part-report-for-start-2 : tie.Need-part-report-for-start-2
+part-report-for-start-2 c = search needs
+
+part-report-for-end-2 : tie.Need-part-report-for-end-2
+part-report-for-end-2 c = search needs
+
+sub-report-for-3 : tie.Need-sub-report-for-3
+sub-report-for-3 c = search needs
+
+part-report-for-start-3 : tie.Need-part-report-for-start-3
+part-report-for-start-3 c = search needs
+
+part-report-for-end-3 : tie.Need-part-report-for-end-3
+part-report-for-end-3 c = search needs
+
+sub-report-for-4 : tie.Need-sub-report-for-4
+sub-report-for-4 c = search needs
+
+part-report-for-start-4 : tie.Need-part-report-for-start-4
+part-report-for-start-4 c = search needs
+
+part-report-for-end-4 : tie.Need-part-report-for-end-4
+part-report-for-end-4 c = search needs
+
+report-for-requires : tie.Need-report-for-requires
+report-for-requires c κs =
+    let a = c .before .before .before .before .before .before .before .before .before .before .before .before .before .before .before .before .before .before .before .before .before .before .before .before .before .before .before .before .before .before .before .before .before .args in
+    let p = c .before .before .before .before .before .before .before .before .before .before .before .before .before .before .before .before .before .before .before .before .before .before .before .before .before .before .before .before .before .before .before .before .before .pre in
+    let s = a .s .now in
+    let r = roundIn s in
+    let l = c .before .before .before .before .before .before .before .before .before .before .before .before .before .before .before .before .before .before .before .before .before .before .before .before .before .before .before .size in
+    let n = c .before .before .before .before .before .before .before .before .before .before .before .before .before .before .before .before .before .before .before .before .before .before .before .before .before .size2 in
+    let f = fits-out r (p .1 .1 .0) in
+    let z = sizes-in s (p .0) in
+    let w = work-asked r (l .result) (n .result) (a .masks .now) (r .ballots) (l .ensures .0) (n .ensures .0) (p .1 .0) refl f z in
+    let x = c .before .before .before .before .before .before .before .before .before .before .before .before .before .before .before .before .before .before .before .before .before .before .before .before .before .before .before .before .before .notes-of in
+    let m = notes-lent r (l .result) (n .result) (a .masks .now) (r .ballots) (l .ensures .0) (n .ensures .0) (p .1 .0) refl (x .result) (x .ensures) .1 .1 in
+    let most = read-most (n .result) (r .held) 128 (n .ensures .0) (f .most) in
+    let below = subst (λ (k : ℕ). a .learner < k) (sym (l .ensures .0)) (p .1 .1 .1) in
+    (below, (w .1 .0, (w .0, (w .1 .1 .0, (most, (z .known, (c .before .before .before .before .report-for-arg20 .given .0, (c .before .before .before .before .before .before .before .before .report-for-arg16 .given .0, (c .before .before .before .before .before .before .before .before .before .before .report-for-arg14 .given .0, (z .signers, record { byBallot = m .byBallot; byForm = m .byForm; keyLowFit = m .keyLowFit; keyHighFit = m .keyHighFit }))))))))))
+
+returns : tie.Need-returns
+returns c =
+    let a = c .before .before .before .before .before .before .before .before .before .before .before .before .before .before .before .before .before .before .before .before .before .before .before .before .before .before .before .before .before .before .before .before .before .before .args in
+    let p = c .before .before .before .before .before .before .before .before .before .before .before .before .before .before .before .before .before .before .before .before .before .before .before .before .before .before .before .before .before .before .before .before .before .before .pre in
+    let s = a .s .now in
+    let r = roundIn s in
+    let l = c .before .before .before .before .before .before .before .before .before .before .before .before .before .before .before .before .before .before .before .before .before .before .before .before .before .before .before .before .size in
+    let n = c .before .before .before .before .before .before .before .before .before .before .before .before .before .before .before .before .before .before .before .before .before .before .before .before .before .before .size2 in
+    let x = c .before .before .before .before .before .before .before .before .before .before .before .before .before .before .before .before .before .before .before .before .before .before .before .before .before .before .before .before .before .before .notes-of in
+    let e = l .ensures .0 in
+    let g = n .ensures .0 in
+    let noted = notes-lent r (l .result) (n .result) (a .masks .now) (r .ballots) e g (p .1 .0) refl (x .result) (x .ensures) in
+    c .report-for .ensures (tableTo r (n .result) (r .ballots)) (length-tabulate (n .result) (recordIn (r .ids) (r .kinds) (r .signers) (r .ballots) (r .previous) (r .counts) (r .references))) (noted .0 .1)
+    ∙ ap shown (reported-lent r (l .result) (n .result) (a .masks .now) (r .ballots) e g (p .1 .0) refl (a .learner))
+
+pub verdict-for-spec : {M : Type 1} → statement M
+verdict-for-spec =
+    tie.close
+    (tie.spec
+    shared-slice-read-acceptors
+    notes-of-requires
+    shared-slice-read-size
+    size-requires
+    shared-slice-read-size-2
+    size-requires-2
+    sub-report-for
+    part-report-for-start
+    part-report-for-end
+    sub-report-for-2
+    part-report-for-start-2
+    part-report-for-end-2
+    sub-report-for-3
+    part-report-for-start-3
+    part-report-for-end-3
+    sub-report-for-4
+    part-report-for-start-4
+    part-report-for-end-4
+    report-for-requires
+    returns)
