@@ -117,6 +117,30 @@ fn race(name: &str, cases: &[Case], calls: impl Fn(&Case) -> [Call<'_>; CONTESTA
     }
 }
 
+/// How far ahead of the transcription a delivery is meant to be.
+const AHEAD: f64 = 20.0;
+
+/// Whoever takes a message hashes it. Where so many digests of the message take
+/// longer than the transcription's delivery, nobody can be so far ahead of it.
+fn floor(name: &str, cases: &[Case]) {
+    for case in cases {
+        let Case { message, literal, size, .. } = case;
+        let mut digest = [0; 32];
+        let turns = contest::take_turns(vec![
+            Box::new(|| {
+                black_box(library::sha256(black_box(message), &mut digest));
+            }),
+            Box::new(|| {
+                black_box(literal.clone().deliver(black_box(message), LONGEST)).ok();
+            }),
+        ]);
+        println!(
+            "{name}, {size} held: {AHEAD} digests / transcription = {}",
+            shown(AHEAD * turns.ratio(0, 1))
+        );
+    }
+}
+
 /// The contestants give the same answers where they are timed.
 fn assert_alike(case: &Case) {
     let Case { bytes, message, literal, .. } = case;
@@ -138,6 +162,7 @@ pub fn run() {
         let voting = cases::voting(&graph);
         firsts.iter().chain(&seconds).chain(&voting).for_each(assert_alike);
         race(&format!("delivering a 1b, {name}"), &firsts, deliveries);
+        floor(&format!("delivering a 1b, {name}"), &firsts);
         race(&format!("delivering a 2a, {name}"), &seconds, deliveries);
         race(&format!("delivering and answering, {name}"), &voting, deliveries);
         race(&format!("report, {name}"), &seconds, reports);

@@ -1,19 +1,19 @@
 -- The tests over lent arrays are those of the round, and what the loops that work them out need.
-use mathlib.Core.Path.{_≡_, refl, sym, ap, subst, _∙_}
-use mathlib.Core.Bool.{Bool, true, false, not, _&&_, _||_}
+use mathlib.Core.Path.{_≡_, refl, sym, ap, ap₂, subst, _∙_}
+use mathlib.Core.Bool.{Bool, true, false, not, _&&_, _||_, and-true}
 use mathlib.Core.Logic.{_≢_}
 use mathlib.Core.Option.{Option, none, some}
 use mathlib.Core.List.{List, [], _∷_, _++_, map, map-append}
 use Prim.Native.Nat.{ℕ, zero, suc, _+_, _-_, _*_, _≤_, _<_}
-use native.Mathlib.Nat.{not-suc-le-zero}
+use native.Mathlib.Nat.{not-suc-le-zero, add-zero, add-assoc}
 use native.Mathlib.Numerals.{add-one}
 use native.Mathlib.Decide.{ℕ-discrete}
 use native.Mathlib.Omega.{arith}
 use lib.Dec.{T, eqb, ltb, leb}
 use lib.ListN.{length, getD}
-use borrow.Author.Tests.{ne-eqb}
+use borrow.Author.Tests.{eqb-true, eqb-false, eq-eqb, ne-eqb}
 use Rattle.base.specs.Tests.{_∈_, all, below}
-use Rattle.base.specs.Bytes.{part}
+use Rattle.base.specs.Bytes.{be, part, Octets}
 use Rattle.base.proofs.Tests.{all-out, map-out}
 use Rattle.base.proofs.Bytes.{part-suc}
 use Rattle.protocol.specs.Ids.{Id, sameId}
@@ -65,21 +65,58 @@ unfolding placeOf
 previous-lent r none = refl
 previous-lent r (some i) = refl
 
--- ---- two ids, byte by byte: what is left of n bytes after k
-pub same-step : (a b : List ℕ) (i j n k : ℕ) → k < n → i + n ≤ length a → j + n ≤ length b
-    → sameId (part (n - k) a (i + k)) (part (n - k) b (j + k))
-    ≡ (eqb (getD a (i + k) 0) (getD b (j + k) 0) && sameId (part (n - (k + 1)) a (i + (k + 1))) (part (n - (k + 1)) b (j + (k + 1))))
-unfolding sameId
-same-step a b i j n k h ha hb =
-    let e : n - k ≡ suc (n - (k + 1)) = omega arith in
-    let u : i + (k + 1) ≡ suc (i + k) = omega arith in
-    let v : j + (k + 1) ≡ suc (j + k) = omega arith in
-    rw (e, u, v, part-suc (n - (k + 1)) a (i + k) (omega arith), part-suc (n - (k + 1)) b (j + k) (omega arith))
+-- ---- two ids, by the numbers that their bytes are
+-- numbers are the same if what stands above their last bytes is, and these are
+same-last : (p q x y : ℕ) (r : Bool) → x < 256 → y < 256 → (eqb p q && (eqb x y && r)) ≡ (eqb (p * 256 + x) (q * 256 + y) && r)
+same-last p q x y r hx hy = go (eqb p q) (eqb x y) refl refl
+  where
+    go : (t u : Bool) → eqb p q ≡ t → eqb x y ≡ u → (t && (u && r)) ≡ (eqb (p * 256 + x) (q * 256 + y) && r)
+    go true true e f =
+        let v = eqb-true p q e in
+        let w = eqb-true x y f in
+        simp (eq-eqb (p * 256 + x) (q * 256 + y) (omega arith))
+    go true false e f = let w = eqb-false x y f in simp (ne-eqb (p * 256 + x) (q * 256 + y) (λ k. w (omega arith)))
+    go false u e f = let v = eqb-false p q e in simp (ne-eqb (p * 256 + x) (q * 256 + y) (λ k. v (omega arith)))
 
--- they differ where their first bytes do
-pub first-differs : (a b : List ℕ) (i j : ℕ) → i + 32 ≤ length a → j + 32 ≤ length b → getD a i 0 ≢ getD b j 0 → sameId (part 32 a i) (part 32 b j) ≡ false
-unfolding sameId
-first-differs a b i j ha hb d = rw (part-suc 31 a i (omega arith), part-suc 31 b j (omega arith)) (simp (ne-eqb (getD a i 0) (getD b j 0) d))
+module _ (a b : List ℕ) (oa : Octets a) (ob : Octets b) where
+  -- n bytes of each compared at once, as big-endian numbers, and then what follows
+  same-number : (n m i j : ℕ) → i + n + m ≤ length a → j + n + m ≤ length b
+      → sameId (part (n + m) a i) (part (n + m) b j) ≡ (eqb (be n a i) (be n b j) && sameId (part m a (i + n)) (part m b (j + n)))
+  unfolding be sameId
+  same-number zero m i j ha hb =
+      let k : 0 + m ≡ m = omega arith in
+      ap (λ (n : ℕ). sameId (part n a i) (part n b j)) k ∙ ap₂ (λ (x y : ℕ). sameId (part m a x) (part m b y)) (sym (add-zero i)) (sym (add-zero j))
+  same-number (suc n) m i j ha hb =
+      let k : suc n + m ≡ n + suc m = omega arith in
+      let u : suc (i + n) ≡ i + suc n = omega arith in
+      let v : suc (j + n) ≡ j + suc n = omega arith in
+      let x = getD a (i + n) 0 in
+      let y = getD b (j + n) 0 in
+      let e : sameId (part (suc m) a (i + n)) (part (suc m) b (j + n)) ≡ (eqb x y && sameId (part m a (i + suc n)) (part m b (j + suc n))) =
+      ap₂ sameId (part-suc m a (i + n) (omega arith)) (part-suc m b (j + n) (omega arith)) ∙ ap₂ (λ (p q : ℕ). eqb x y && sameId (part m a p) (part m b q)) u v in
+      ap (λ (n : ℕ). sameId (part n a i) (part n b j)) k ∙ same-number n (suc m) i j (omega arith) (omega arith)
+      ∙ ap (λ (t : Bool). eqb (be n a i) (be n b j) && t) e
+      ∙ same-last (be n a i) (be n b j) x y (sameId (part m a (i + suc n)) (part m b (j + suc n))) (oa (i + n)) (ob (j + n))
+
+  module _ (i j : ℕ) (ha : i + 32 ≤ length a) (hb : j + 32 ≤ length b) where
+    -- a word of each compared, behind k bytes and with m bytes behind it
+    same-word : (k m : ℕ) → k + 8 + m ≤ 32
+        → sameId (part (8 + m) a (i + k)) (part (8 + m) b (j + k)) ≡ (eqb (be 8 a (i + k)) (be 8 b (j + k)) && sameId (part m a (i + (k + 8))) (part m b (j + (k + 8))))
+    same-word k m h =
+        same-number 8 m (i + k) (j + k) (omega arith) (omega arith)
+        ∙ ap₂ (λ (x y : ℕ). eqb (be 8 a (i + k)) (be 8 b (j + k)) && sameId (part m a x) (part m b y)) (add-assoc i k 8) (add-assoc j k 8)
+
+    -- two ids are the same if their four words are
+    pub same-words : sameId (part 32 a i) (part 32 b j)
+        ≡ (eqb (be 8 a i) (be 8 b j) && (eqb (be 8 a (i + 8)) (be 8 b (j + 8)) && (eqb (be 8 a (i + 16)) (be 8 b (j + 16)) && eqb (be 8 a (i + 24)) (be 8 b (j + 24)))))
+    unfolding sameId
+    same-words =
+        same-number 8 24 i j (omega arith) (omega arith)
+        ∙ rw (same-word 8 16 (omega arith), same-word 16 8 (omega arith), same-word 24 0 (omega arith), and-true)
+
+    -- they differ where their first words do
+    pub first-differs : be 8 a i ≢ be 8 b j → sameId (part 32 a i) (part 32 b j) ≡ false
+    first-differs d = same-words ∙ simp (ne-eqb (be 8 a i) (be 8 b j) d)
 
 -- ---- the least number that passes
 module _ (f : ℕ → Bool) where

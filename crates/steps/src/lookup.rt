@@ -1,10 +1,11 @@
 // Ids, and the places that they name. The arrays of a round are lent one by one; `held` says how many places are in use.
+use base::read64;
 use base::size;
 ghost use mathlib.Core.Path.{_≡_};
 ghost use mathlib.Core.Logic.{_⊎_};
 ghost use Prim.Native.Nat.{_+_, _*_, _≤_, _<_};
 ghost use lib.ListN.{length};
-ghost use Rattle.base.specs.Bytes.{part};
+ghost use Rattle.base.specs.Bytes.{be, part};
 ghost use Rattle.protocol.specs.Ids.{sameId};
 ghost use Rattle.steps.specs.Lent.{placeIn, foundOf, previousIn, namedIn, previousPlaceIn};
 ghost use Rattle.round.specs.Rows.{orZero};
@@ -15,40 +16,42 @@ pub enum Found {
     Nothing,
 }
 
-// Whether the id in a from i on is the one in b from j on, byte by byte.
-fn same_bytes<'a>(a: &'a [u8], i: usize, b: &'a [u8], j: usize) -> bool
-    requires { ⌜ (i + 32 ≤ length (now a)) × (j + 32 ≤ length (now b)) ⌝ }
+// Whether two ids whose first words are equal are the same: the other three words.
+fn same_rest<'a>(a: &'a [u8], i: usize, b: &'a [u8], j: usize) -> bool
+    requires { ⌜ (i + 32 ≤ length (now a)) × ((j + 32 ≤ length (now b)) × (be 8 (now a) i ≡ be 8 (now b) j)) ⌝ }
     ensures { λ r. ⌜ r ≡ sameId (part 32 (now (a .entry)) i) (part 32 (now (b .entry)) j) ⌝ }
 {
-    let mut k: usize = 0;
-    while k < 32 {
-        if a[i + k] != b[j + k] {
-            return false;
-        }
-        k += 1;
+    if read64(a, i + 8) != read64(b, j + 8) {
+        return false;
     }
-    true
+    if read64(a, i + 16) != read64(b, j + 16) {
+        return false;
+    }
+    read64(a, i + 24) == read64(b, j + 24)
 }
 
-// The same. Ids are digests, so two that differ mostly do so in the first byte, and no loop is begun.
+// Whether the id in a from i on is the one in b from j on. Ids are digests, so two that differ mostly do so in the first
+// word.
 pub fn same_id<'a>(a: &'a [u8], i: usize, b: &'a [u8], j: usize) -> bool
     requires { ⌜ (i + 32 ≤ length (now a)) × (j + 32 ≤ length (now b)) ⌝ }
     ensures { λ r. ⌜ r ≡ sameId (part 32 (now (a .entry)) i) (part 32 (now (b .entry)) j) ⌝ }
 {
-    if a[i] != b[j] {
+    if read64(a, i) != read64(b, j) {
         return false;
     }
-    same_bytes(a, i, b, j)
+    same_rest(a, i, b, j)
 }
 
-// The place that the id in `bytes` from `at` on names: the lowest that has it.
+// The place that the id in `bytes` from `at` on names: the lowest that has it. Its first word is read once, and each place
+// is asked for that word first.
 pub fn place_at<'a>(ids: &'a [u8], held: usize, bytes: &'a [u8], at: usize) -> Found
     requires { ⌜ (held ≤ 128) × ((length (now ids) ≡ 4096) × (at + 32 ≤ length (now bytes))) ⌝ }
     ensures { λ r. ⌜ r ≡ foundOf (placeIn (now (ids .entry)) held (part 32 (now (bytes .entry)) at)) ⌝ }
 {
+    let first = read64(bytes, at);
     let mut p: usize = 0;
     while p < held {
-        if same_id(ids, 32 * p, bytes, at) {
+        if read64(ids, 32 * p) == first && same_rest(ids, 32 * p, bytes, at) {
             return Found::At(p);
         }
         p += 1;
