@@ -17,8 +17,9 @@ use Rattle.scan.specs.PlaceSets.{inSet, meets}
 use Rattle.scan.specs.Arrays.{Whole, Covers, isOffer, isFork, isCaught, isVote, isRival, isBacker, isCrowding, Indexed}
 use Rattle.scan.proofs.Loops.{not-covered}
 use Rattle.scan.proofs.Naming.{indexed-more}
+use Rattle.scan.proofs.Walks.{Passed}
 use Rattle.derive.specs.declared.Walks.{Walks}
-use Rattle.derive.specs.Notes.{signerKey, linkKey, ballotKey, formKey, kindKey, Filed, Marks, Marked, Voting, Put, Walked}
+use Rattle.derive.specs.Notes.{keys, signerKey, linkKey, ballotKey, formKey, kindKey, Filed, Marks, Marked, Voting, Put, Backing, Walked}
 use Rattle.derive.specs.Deciding.{isKnownIn, isVoter, votersFor, isDeciding, lowered, leastOf}
 
 -- what two sets have, their common part has
@@ -68,15 +69,15 @@ module _ (n : ℕ) (kinds signers names previous forkLow forkHigh tops forms key
           walked .rivalling j (omega arith) (and-l A B x) (filed n formKey forms keyLow keyHigh 2 j (marks .byForm) h (and-r A B x))
           (filed n signerKey signers keyLow keyHigh signer j (marks .bySigner) h (and-r E D w))
 
-    pub covers-backers : (fresh : List ℕ) (a : ℕ) → Covers n (isBacker forms fresh tops low high a ballot) (r .backers .low) (r .backers .high)
-    covers-backers fresh a j h t =
-        let A = inSet low high j in
-        let B = eqb (getD forms j 0) 1 in
-        let C = has (getD fresh j 0) a in
-        let D = eqb (getD tops j 0) ballot in
-        let x = and-l (A && B) C (and-l (A && B && C) D t) in
-        walked .backing j (omega arith) (and-l A B x) (filed n formKey forms keyLow keyHigh 1 j (marks .byForm) h (and-r A B x))
-        (filed n ballotKey tops keyLow keyHigh ballot j (marks .byBallot) h (and-r (A && B && C) D t))
+  pub covers-backers : (low high ballot x y : ℕ) → Backing keyLow keyHigh low high ballot x y → (fresh : List ℕ) (a : ℕ) → Covers n (isBacker forms fresh tops low high a ballot) x y
+  covers-backers low high ballot x y backing fresh a j h t =
+      let A = inSet low high j in
+      let B = eqb (getD forms j 0) 1 in
+      let C = has (getD fresh j 0) a in
+      let D = eqb (getD tops j 0) ballot in
+      let w = and-l (A && B) C (and-l (A && B && C) D t) in
+      backing j (omega arith) (and-l A B w) (filed n formKey forms keyLow keyHigh 1 j (marks .byForm) h (and-r A B w))
+      (filed n ballotKey tops keyLow keyHigh ballot j (marks .byBallot) h (and-r (A && B && C) D t))
 
   -- a walk over those of a set that are filed under a key
   module _ (low high k x y : ℕ) (within : (q : ℕ) → q < 128 → inSet x y q ≡ (inSet low high q && inSet (getD keyLow k 0) (getD keyHigh k 0) q)) where
@@ -115,7 +116,7 @@ module _ (n : ℕ) (kinds signers names previous forkLow forkHigh tops forms key
         keyHighFit = put .highKept;
       }
 
-pub marks-none : (kinds signers names previous forkLow forkHigh tops forms keyLow keyHigh : List ℕ) → length keyLow ≡ 232 → length keyHigh ≡ 232
+pub marks-none : (kinds signers names previous forkLow forkHigh tops forms keyLow keyHigh : List ℕ) → length keyLow ≡ keys → length keyHigh ≡ keys
     → Marks 0 kinds signers names previous forkLow forkHigh tops forms keyLow keyHigh 0 0
 marks-none kinds signers names previous forkLow forkHigh tops forms keyLow keyHigh l h =
     record {
@@ -161,5 +162,5 @@ least-skip test f j (suc r) l h = step (decLe j r) (λ d. least-skip test f j r 
     step (no d) rest = let e : j ≡ suc r = omega arith in ap (leastOf test f) e
 
 pub least-next : (n : ℕ) (test : ℕ → Bool) (f : ℕ → ℕ) (low high j r : ℕ) → Covers n test low high
-    → (j ≤ r) × ((r ≤ n) × ((q : ℕ) → j ≤ q → q < r → inSet low high q ≡ false)) → leastOf test f j ≡ leastOf test f r
+    → Passed n low high j r → leastOf test f j ≡ leastOf test f r
 least-next n test f low high j r cover (l, (u, none)) = least-skip test f j r l (λ q a b. not-covered n test low high q cover (omega arith) (none q a b))

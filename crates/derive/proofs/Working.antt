@@ -21,7 +21,7 @@ use Rattle.protocol.specs.Message.{Message, isProposal, is1b, is2a, tran, ballo
 use Rattle.protocol.specs.Learners.{fresh, lrns}
 use Rattle.protocol.specs.WellFormed.{formed1b, formed2a}
 use Rattle.protocol.specs.Table.{Held, says, Table, at, heldId, heldSigner, heldPrevious, offered, places, Ordered, nodeBy, tree, reach}
-use Rattle.protocol.specs.Places.{is1bAt, is2aAt, ballotAt, valueAt, caughtAt, formed1bAt, conAt, buriedAt, freshAt, lrnsAt}
+use Rattle.protocol.specs.Places.{is1bAt, is2aAt, ballotAt, valueAt, caughtAt, formed1bAt, formed2aAt, conAt, buriedAt, freshAt, lrnsAt}
 use Rattle.protocol.proofs.Ids.{sameId-law, samePrevious-law}
 use Rattle.protocol.proofs.Table.{tree-proposal, reach-is, reach-self, reach-le}
 use Rattle.protocol.proofs.Growth.{at-append, at-end, tree-append, reach-append, ordered-snoc}
@@ -31,7 +31,6 @@ use Rattle.protocol.proofs.Places as law
 use Rattle.protocol.proofs.PlacesLearners.{con-at, buried-at, fresh-at, lrns-at, formed2a-at}
 use Rattle.scan.specs.PlaceSets.{inSet, meets}
 use Rattle.scan.specs.Arrays.{highest, isOffer, Beneath, isFork, isCaught, isVote, voteBallot, peaksOf, isBuried, isOpposed, isBarred, isBacker, backedBy, isCrowding}
-use Rattle.derive.specs.declared.Worked.{Worked}
 use Rattle.derive.specs.Notes.{Known, Candidate, Told, Judged}
 use Rattle.base.proofs.Bits.{some-bit}
 use native.Mathlib.Nat.{pow-suc}
@@ -117,10 +116,10 @@ last : (a b c d d′ : Bool) → (T a → d ≡ d′) → (a && b && c && d) ≡
 last true b c d d′ h = ap (λ (x : Bool). b && c && x) (h tt)
 last false b c d d′ h = refl
 
-module _ (G : LearnerGraph) (t : Table) (kinds signers names previous low high forkLow forkHigh tops learners freshes forms ps : List ℕ)
+module _ (G : LearnerGraph) (t : Table) (kinds signers low high forkLow forkHigh tops learners freshes forms ps : List ℕ)
     (kn : Known G t kinds signers low high forkLow forkHigh tops learners freshes forms)
-    (id : Id) (sig : ℕ) (prev : Option Id) (name link n : ℕ) (size : length t ≡ n) (small : n ≤ 128)
-    (ca : Candidate t names previous ps id prev name link) where
+    (id : Id) (sig : ℕ) (prev : Option Id) (n : ℕ) (size : length t ≡ n) (small : n ≤ 128)
+    (back : (j : ℕ) → j ∈ ps → j < length t) where
   abbrev new : Held
   new = says id sig prev ps
 
@@ -129,7 +128,7 @@ module _ (G : LearnerGraph) (t : Table) (kinds signers names previous low high f
 
   ord : Ordered u
   unfolding places
-  ord = ordered-snoc t new (kn .ordered) (λ j m. ca .earlier j m)
+  ord = ordered-snoc t new (kn .ordered) back
 
   at-new : at u n ≡ new
   at-new = ap (at u) (sym size) ∙ at-end t new
@@ -172,27 +171,6 @@ module _ (G : LearnerGraph) (t : Table) (kinds signers names previous low high f
     freshly-is a la one =
         kn .noted j (omega arith) .freshly a la (subst (λ (m : Message). T (is1b m)) old one) ∙ ap (λ (m : Message). fresh G a m) (sym old)
 
-    id-is : eqb (getD names j 0) name ≡ sameId (heldId (at u j)) id
-    id-is = ca .named j (omega arith) ∙ ap (λ (r : Held). sameId (heldId r) id) (sym at-old)
-
-    previous-is : T (not (offered (at u j))) → eqb (getD names (getD previous j 0) 0) link ≡ samePrevious (heldPrevious (at u j)) prev
-    previous-is h = ca .linked j (omega arith) (subst (λ (r : Held). T (not (offered r))) at-old h) ∙ ap (λ (r : Held). samePrevious (heldPrevious r) prev) (sym at-old)
-
-    fork-is : isFork kinds signers names previous sig name link j ≡ forks (tree u j) (tree u n)
-    unfolding forksHeld offered heldSigner heldId heldPrevious
-    fork-is =
-        (λ e. not (kind-is e) && eqb (signer-is e) sig && not (id-is e) && eqb (getD names (getD previous j 0) 0) link)
-        ∙ last (not (offered (at u j))) (eqb (heldSigner (at u j)) sig) (not (sameId (heldId (at u j)) id)) (eqb (getD names (getD previous j 0) 0) link)
-        (samePrevious (heldPrevious (at u j)) prev) previous-is
-        ∙ pad (not (offered (at u j))) (eqb (heldSigner (at u j)) sig) (not (sameId (heldId (at u j)) id)) (samePrevious (heldPrevious (at u j)) prev)
-        ∙ sym (forks-at u u j n ∙ ap (forksHeld (at u j)) at-new)
-
-  module _ (fl fh : ℕ) (hf : (q : ℕ) → q < 128 → inSet fl fh q ≡ any (λ j. isFork kinds signers names previous sig name link j && eqb j q) (below n)) where
-    pub forking-told : (j : ℕ) → j < 128 → inSet fl fh j ≡ (ltb j n && forks (tree u j) (tree u n))
-    forking-told j l =
-        hf j l ∙ any-at (isFork kinds signers names previous sig name link) n j
-        ∙ and-cong (ltb j n) (isFork kinds signers names previous sig name link j) (forks (tree u j) (tree u n)) (λ t. fork-is j (ltb→lt j n t))
-
   highest-is : (r : List ℕ) → ((k : ℕ) → k ∈ r → k < n) → highest tops r ≡ law.highest (ballotAt u) r
   unfolding highest law.highest
   highest-is [] h = refl
@@ -200,19 +178,19 @@ module _ (G : LearnerGraph) (t : Table) (kinds signers names previous low high f
 
   module _ (lo hi bal : ℕ) (o : Bool) (bt : Beneath low high tops kinds ps lo hi bal o) where
     earlier : (k : ℕ) → k ∈ ps → k < n
-    earlier k m = let e = ca .earlier k m in omega arith
+    earlier k m = let e = back k m in omega arith
 
     beneath-told : (j : ℕ) → j < n → inSet lo hi j ≡ reach u n j
     beneath-told j l =
         bt .set j (omega arith)
         ∙ any-cong (λ k. inSet (getD low k 0) (getD high k 0) j) (λ k. reach u k j) ps
-        (λ k m. kn .noted k (ca .earlier k m) .reaches j (omega arith) ∙ sym (reach-append t (new ∷ []) (kn .ordered) k j (ca .earlier k m)))
+        (λ k m. kn .noted k (back k m) .reaches j (omega arith) ∙ sym (reach-append t (new ∷ []) (kn .ordered) k j (back k m)))
         ∙ sym (reach-is u ord n j ∙ ap₂ _||_ (ne-eqb n j (λ q. omega arith)) (ap (any (λ k. reach u k j)) places-new))
 
     none-told : (j : ℕ) → n ≤ j → j < 128 → T (inSet lo hi j) → ⊥
     none-told j l g h =
         let (k, m, q) = any-out (λ k. inSet (getD low k 0) (getD high k 0) j) ps (subst T (bt .set j g) h) in
-        let r : T (reach t k j) = subst T (kn .noted k (ca .earlier k m) .reaches j g) q in
+        let r : T (reach t k j) = subst T (kn .noted k (back k m) .reaches j g) q in
         let e = earlier k m in
         let d = reach-le t (kn .ordered) k j r in
         omega arith
@@ -220,10 +198,6 @@ module _ (G : LearnerGraph) (t : Table) (kinds signers names previous low high f
     ballot-told : bal ≡ ballotAt u n
     unfolding ballotBy
     ballot-told = bt .top ∙ highest-is ps earlier ∙ sym (ballot-at u ord n ∙ ap (ballotBy (ballotAt u)) at-new)
-
-    value-told : valueOf bal ≡ valueAt u n
-    unfolding value
-    value-told = ap valueOf ballot-told
 
     offer-told : o ≡ any (λ k. offered (at u k)) ps
     offer-told = bt .offer ∙ any-cong (isOffer kinds) (λ k. offered (at u k)) ps (λ k m. kind-is k (earlier k m))
@@ -235,121 +209,6 @@ module _ (G : LearnerGraph) (t : Table) (kinds signers names previous low high f
     second-told : is2aAt u n ≡ not o
     unfolding offered places
     second-told = is2a-at u ord n ∙ ap (λ (r : Held). not (offered r) && not (any (λ k. offered (at u k)) (places r))) at-new ∙ ap not (sym offer-told)
-
-    -- ---- Caught
-    module _ (fl fh others mask : ℕ) (hf : (q : ℕ) → q < 128 → inSet fl fh q ≡ any (λ j. isFork kinds signers names previous sig name link j && eqb j q) (below n))
-        (p : ℕ) (ho : has others p ≡ any (λ j. isCaught forkLow forkHigh lo hi j && eqb (getD signers j 0) p) (below n))
-        (hm : has mask p ≡ ((meets lo hi fl fh && eqb sig p) || has others p)) where
-      abbrev inner : ℕ → ℕ → Bool
-      inner j k = reach u n k && forksHeld (at u j) (at u k)
-
-      abbrev outer : ℕ → Bool
-      outer j = reach u n j && (any (inner j) (below (suc n)) && eqb (heldSigner (at u j)) p)
-
-      there : (j k : ℕ) → j < suc n → k < suc n → T (reach u n j) → T (reach u n k) → T (forksHeld (at u j) (at u k)) → heldSigner (at u j) ≡ p → T (any outer (below (suc n)))
-      there j k lj lk rj rk f e =
-          let i : T (any (inner j) (below (suc n))) = any-in (inner j) {x = k} (below-in (suc n) lk) (and-in (reach u n k) (forksHeld (at u j) (at u k)) rk f) in
-          let s : T (eqb (heldSigner (at u j)) p) = eq→eqb e in
-          any-in outer {x = j} (below-in (suc n) lj)
-          (and-in (reach u n j) (any (inner j) (below (suc n)) && eqb (heldSigner (at u j)) p) rj (and-in (any (inner j) (below (suc n))) (eqb (heldSigner (at u j)) p) i s))
-
-      abbrev one : ℕ → Bool
-      one j = isCaught forkLow forkHigh lo hi j && eqb (getD signers j 0) p
-
-      -- two places that fork, the second below n
-      held-fork : (j k : ℕ) → j < n → (inSet (getD forkLow j 0) (getD forkHigh j 0) k) ≡ (ltb k j && forks (tree t k) (tree t j)) → k < j
-          → (inSet (getD forkLow j 0) (getD forkHigh j 0) k) ≡ forksHeld (at u k) (at u j)
-      held-fork j k l e g =
-          e ∙ and-true (ltb k j) (forks (tree t k) (tree t j)) (lt→ltb k j g) ∙ ap₂ forks (sym (old k (omega arith))) (sym (old j l)) ∙ forks-at u u k j
-
-      mine : T (meets lo hi fl fh) → T (eqb sig p) → T (any outer (below (suc n)))
-      unfolding meets
-      mine m s =
-          let (k, q, h) = any-out (λ k. inSet lo hi k && inSet fl fh k) (below 128) m in
-          let lk = below-out 128 q in
-          let f : T (ltb k n && forks (tree u k) (tree u n)) = subst T (forking-told fl fh hf k lk) (and-r (inSet lo hi k) (inSet fl fh k) h) in
-          let ln = ltb→lt k n (and-l (ltb k n) (forks (tree u k) (tree u n)) f) in
-          let g : T (forksHeld (at u k) (at u n)) = subst T (forks-at u u k n) (and-r (ltb k n) (forks (tree u k) (tree u n)) f) in
-          let r : T (reach u n k) = subst T (beneath-told k ln) (and-l (inSet lo hi k) (inSet fl fh k) h) in
-          there k n (omega arith) (omega arith) r (reach-self u ord n) g (fork-signer (at u k) (at u n) g ∙ signer-new ∙ eqb→eq sig p s)
-
-      theirs : T (any one (below n)) → T (any outer (below (suc n)))
-      unfolding meets
-      theirs h =
-          let (j, m, q) = any-out one (below n) h in
-          let lj = below-out n m in
-          let c : T (isCaught forkLow forkHigh lo hi j) = and-l (isCaught forkLow forkHigh lo hi j) (eqb (getD signers j 0) p) q in
-          let (k, mk, w) = any-out (λ k. inSet lo hi k && inSet (getD forkLow j 0) (getD forkHigh j 0) k) (below 128)
-          (and-r (inSet lo hi j) (meets lo hi (getD forkLow j 0) (getD forkHigh j 0)) c) in
-          let lk = below-out 128 mk in
-          let x : T (inSet (getD forkLow j 0) (getD forkHigh j 0) k) = and-r (inSet lo hi k) (inSet (getD forkLow j 0) (getD forkHigh j 0) k) w in
-          let e = kn .noted j (omega arith) .forking k lk in
-          let g : k < j = ltb→lt k j (and-l (ltb k j) (forks (tree t k) (tree t j)) (subst T e x)) in
-          let f : T (forksHeld (at u k) (at u j)) = subst T (held-fork j k lj e g) x in
-          let rj : T (reach u n j) = subst T (beneath-told j lj) (and-l (inSet lo hi j) (meets lo hi (getD forkLow j 0) (getD forkHigh j 0)) c) in
-          let rk : T (reach u n k) = subst T (beneath-told k (omega arith)) (and-l (inSet lo hi k) (inSet (getD forkLow j 0) (getD forkHigh j 0) k) w) in
-          there k j (omega arith) (omega arith) rk rj f
-          (fork-signer (at u k) (at u j) f ∙ sym (signer-is j lj) ∙ eqb→eq (getD signers j 0) p (and-r (isCaught forkLow forkHigh lo hi j) (eqb (getD signers j 0) p) q))
-
-      -- the later one of two that fork
-      pair : (x y : ℕ) → x < y → y ≤ n → T (reach u n x) → T (reach u n y) → T (forksHeld (at u x) (at u y)) → heldSigner (at u y) ≡ p
-          → T ((meets lo hi fl fh && eqb sig p) || any one (below n))
-      unfolding meets
-      pair x y g ly rx ry f e = step (decLt y n)
-        where
-          sx : T (inSet lo hi x)
-          sx = subst T (sym (beneath-told x (omega arith))) rx
-
-          step : Dec (y < n) → T ((meets lo hi fl fh && eqb sig p) || any one (below n))
-          step (yes l) =
-              let sy : T (inSet lo hi y) = subst T (sym (beneath-told y l)) ry in
-              let k : T (inSet (getD forkLow y 0) (getD forkHigh y 0) x) = subst T (sym (held-fork y x l (kn .noted y (omega arith) .forking x (omega arith)) g)) f in
-              let m : T (meets lo hi (getD forkLow y 0) (getD forkHigh y 0)) = any-in (λ k. inSet lo hi k && inSet (getD forkLow y 0) (getD forkHigh y 0) k) {x = x} (below-in 128 (omega arith))
-              (and-in (inSet lo hi x) (inSet (getD forkLow y 0) (getD forkHigh y 0) x) sx k) in
-              let s : T (eqb (getD signers y 0) p) = eq→eqb (signer-is y l ∙ e) in
-              or-r (meets lo hi fl fh && eqb sig p) (any one (below n))
-              (any-in one {x = y} (below-in n l) (and-in (isCaught forkLow forkHigh lo hi y) (eqb (getD signers y 0) p)
-              (and-in (inSet lo hi y) (meets lo hi (getD forkLow y 0) (getD forkHigh y 0)) sy m) s))
-          step (no l) =
-              let d : y ≡ n = omega arith in
-              let ln : x < n = omega arith in
-              let f′ : T (forksHeld (at u x) (at u n)) = subst (λ (z : ℕ). T (forksHeld (at u x) (at u z))) d f in
-              let k : T (inSet fl fh x) = subst T (sym (forking-told fl fh hf x (omega arith)))
-              (and-in (ltb x n) (forks (tree u x) (tree u n)) (lt→ltb x n ln) (subst T (sym (forks-at u u x n)) f′)) in
-              let m : T (meets lo hi fl fh) = any-in (λ k. inSet lo hi k && inSet fl fh k) {x = x} (below-in 128 (omega arith)) (and-in (inSet lo hi x) (inSet fl fh x) sx k) in
-              let s : T (eqb sig p) = eq→eqb (sym signer-new ∙ ap (λ (z : ℕ). heldSigner (at u z)) (sym d) ∙ e) in
-              or-l (meets lo hi fl fh && eqb sig p) (any one (below n)) (and-in (meets lo hi fl fh) (eqb sig p) m s)
-
-      caught-told : has mask p ≡ caughtAt u n p
-      caught-told = hm ∙ ap (λ (x : Bool). (meets lo hi fl fh && eqb sig p) || x) ho ∙ same-test _ _ to from ∙ sym (caught-at u ord n p (suc n) (omega arith))
-        where
-          to : T ((meets lo hi fl fh && eqb sig p) || any one (below n)) → T (any outer (below (suc n)))
-          to h = step (or-out (meets lo hi fl fh && eqb sig p) (any one (below n)) h)
-            where
-              step : T (meets lo hi fl fh && eqb sig p) ⊎ T (any one (below n)) → T (any outer (below (suc n)))
-              step (inl k) = mine (and-l (meets lo hi fl fh) (eqb sig p) k) (and-r (meets lo hi fl fh) (eqb sig p) k)
-              step (inr k) = theirs k
-
-          from : T (any outer (below (suc n))) → T ((meets lo hi fl fh && eqb sig p) || any one (below n))
-          from h =
-              let (j, m, q) = any-out outer (below (suc n)) h in
-              let r : T (any (inner j) (below (suc n)) && eqb (heldSigner (at u j)) p) = and-r (reach u n j) (any (inner j) (below (suc n)) && eqb (heldSigner (at u j)) p) q in
-              let (k, mk, w) = any-out (inner j) (below (suc n)) (and-l (any (inner j) (below (suc n))) (eqb (heldSigner (at u j)) p) r) in
-              let lj = below-out (suc n) m in
-              let lk = below-out (suc n) mk in
-              let rj : T (reach u n j) = and-l (reach u n j) (any (inner j) (below (suc n)) && eqb (heldSigner (at u j)) p) q in
-              let rk : T (reach u n k) = and-l (reach u n k) (forksHeld (at u j) (at u k)) w in
-              let f : T (forksHeld (at u j) (at u k)) = and-r (reach u n k) (forksHeld (at u j) (at u k)) w in
-              let e : heldSigner (at u j) ≡ p = eqb→eq (heldSigner (at u j)) p (and-r (any (inner j) (below (suc n))) (eqb (heldSigner (at u j)) p) r) in
-              step j k lj lk rj rk f e (decLt j k) (decLt k j)
-            where
-              step : (j k : ℕ) → j < suc n → k < suc n → T (reach u n j) → T (reach u n k) → T (forksHeld (at u j) (at u k)) → heldSigner (at u j) ≡ p → Dec (j < k) → Dec (k < j)
-                  → T ((meets lo hi fl fh && eqb sig p) || any one (below n))
-              step j k lj lk rj rk f e (yes a) b = pair j k a (omega arith) rj rk f (sym (fork-signer (at u j) (at u k) f) ∙ e)
-              step j k lj lk rj rk f e (no a) (yes b) = pair k j b (omega arith) rk rj (fork-swap (at u j) (at u k) f) e
-              step j k lj lk rj rk f e (no a) (no b) =
-                  let d : k ≡ j = omega arith in
-                  absurd (fork-other (at u j) (subst (λ (z : ℕ). T (forksHeld (at u j) (at u z))) d f))
 
     -- ---- lrns
     module _ (mask : ℕ) (k : ℕ) (hk : k ≡ pick (not o) (G .learners) 0)
@@ -508,101 +367,251 @@ module _ (G : LearnerGraph) (t : Table) (kinds signers names previous low high f
             ∙ same-test (not (any bars (below (G .learners)))) (all agrees (below n)) to from
             ∙ sym (fresh-at u G ord n n (omega arith) one a)
 
-    -- ---- all that is worked out
-    pub told : (fl fh others mask against free learned firsts seconds v form : ℕ) → G .acceptors ≤ 32
-        → ((q : ℕ) → q < 128 → inSet fl fh q ≡ any (λ j. isFork kinds signers names previous sig name link j && eqb j q) (below n))
-        → ((p : ℕ) → p < 32 → has others p ≡ any (λ j. isCaught forkLow forkHigh lo hi j && eqb (getD signers j 0) p) (below n))
-        → ((p : ℕ) → p < 32 → has mask p ≡ ((meets lo hi fl fh && eqb sig p) || has others p))
-        → firsts ≡ pick o (G .learners) 0 → v ≡ valueOf bal
-        → ((q : ℕ) → has against q ≡ any (λ b. isBarred forms learners signers tops n lo hi sig v b && eqb b q) (below firsts))
-        → ((q : ℕ) → has free q ≡ any (λ a. not (any (λ b. safeWithout G a b (has mask) && has against b) (below (G .learners))) && eqb a q) (below firsts))
-        → seconds ≡ pick (not o) (G .learners) 0
-        → ((q : ℕ) → has learned q ≡ any (λ a. isQuorum G a (backedBy forms freshes tops signers n lo hi bal a) && eqb a q) (below seconds))
-        → form ≡ pick o 1 2
-        → Told G u n (record { beneath = record { low = lo; high = hi }; forks = record { low = fl; high = fh }; ballot = bal; learners = learned; fresh = free; form = form })
-    told fl fh others mask against free learned firsts seconds v form few hf ho hm hk hv ha hr hs hl hform =
-        record {
-          reaches = beneath-told;
-          none = none-told;
-          forking = forking-told fl fh hf;
-          ballot = ballot-told;
-          first = ap (λ (x : ℕ). eqb x 1) hform ∙ firsts-form o ∙ sym first-told;
-          second = ap (λ (x : ℕ). eqb x 2) hform ∙ seconds-form o ∙ sym second-told;
-          learning = learning-told learned seconds hs hl;
-          within = outside learned seconds hs hl;
-          freshly = λ a la one. fresh-told mask against free firsts v hv hk caught ha hr one a la;
-        }
-      where
-        caught : (p : ℕ) → p < G .acceptors → has mask p ≡ caughtAt u n p
-        caught p lp = caught-told fl fh others mask hf p (ho p (omega arith)) (hm p (omega arith))
-
-        firsts-form : (z : Bool) → eqb (pick z 1 2) 1 ≡ z
-        firsts-form true = refl
-        firsts-form false = refl
-
-        seconds-form : (z : Bool) → eqb (pick z 1 2) 2 ≡ not z
-        seconds-form true = refl
-        seconds-form false = refl
-
-  -- ---- a new message is judged by what was worked out for it
-  module _ (r : Worked) (w : Told G u n r) where
-    abbrev lo : ℕ
-    lo = r .beneath .low
-
-    abbrev hi : ℕ
-    hi = r .beneath .high
+    -- ---- a new message is judged
+    message-is : tree u n ≡ nodeBy (tree t) new
+    unfolding places
+    message-is = ap (tree u) (sym size) ∙ new-message t new (kn .ordered) back
 
     -- a proposal beneath
     grounded-told : any (λ j. inSet lo hi j && isOffer kinds j) (below n) ≡ any isProposal (tran (tree u n))
     unfolding offered
     grounded-told =
         any-cong (λ j. inSet lo hi j && isOffer kinds j) (λ j. reach u n j && isProposal (tree u j)) (below n)
-        (λ j m. ap₂ _&&_ (w .reaches j (below-out n m)) (kind-is j (below-out n m) ∙ sym (tree-proposal u j)))
+        (λ j m. ap₂ _&&_ (beneath-told j (below-out n m)) (kind-is j (below-out n m) ∙ sym (tree-proposal u j)))
         ∙ sym (any-beneath u ord n isProposal (subst (λ (x : Bool). T (not x)) (sym (tree-proposal u n ∙ ap offered at-new)) tt) n (omega arith))
 
-    -- a well-formed 1b
-    formed1-told : (not (eqb (r .form) 1) || not (any (isCrowding kinds names tops lo hi name (r .ballot)) (below n))) ≡ formed1bAt u n
-    unfolding heldId
-    formed1-told =
-        ap₂ (λ (x y : Bool). not x || not y) (w .first)
-        (any-cong (isCrowding kinds names tops lo hi name (r .ballot)) (λ j. not (g j)) (below n) (λ j m. step j (below-out n m)) ∙ any-not-all (λ j. not (g j)) g (below n) (λ j. refl))
-        ∙ ap (λ (x : Bool). not (is1bAt u n) || x) (not-not (all g (below n)))
-        ∙ sym (formed1b-at u ord n n (omega arith))
-      where
-        g : ℕ → Bool
-        g j = not (reach u n j) || (sameId (heldId (at u j)) (heldId (at u n)) || not (eqb (ballotAt u j) (ballotAt u n)) || offered (at u j))
+    -- place j does not crowd it
+    abbrev alone : ℕ → Bool
+    alone j = not (reach u n j) || (sameId (heldId (at u j)) (heldId (at u n)) || not (eqb (ballotAt u j) (ballotAt u n)) || offered (at u j))
 
-        same : (j : ℕ) (l : j < n) → eqb (getD names j 0) name ≡ sameId (heldId (at u j)) (heldId (at u n))
-        same j l = id-is j l ∙ ap (λ (r : Held). sameId (heldId (at u j)) (heldId r)) (sym at-new)
-
-        step : (j : ℕ) (l : j < n) → isCrowding kinds names tops lo hi name (r .ballot) j ≡ not (g j)
-        step j l =
-            (λ e. w .reaches j l e && not (same j l e) && eqb (top-is j l e) (w .ballot e) && not (kind-is j l e))
-            ∙ denied (reach u n j) (sameId (heldId (at u j)) (heldId (at u n))) (eqb (ballotAt u j) (ballotAt u n)) (offered (at u j))
-
-    -- a well-formed 2a
-    learners-told : not (eqb (r .learners) 0) ≡ any (lrnsAt u G n) (below (G .learners))
-    learners-told = same-test _ _ to from
-      where
-        to : T (not (eqb (r .learners) 0)) → T (any (lrnsAt u G n) (below (G .learners)))
-        to h =
-            let (a, m) = some-member (r .learners) h in
-            let l = w .within a m in
-            any-in (lrnsAt u G n) {x = a} (below-in (G .learners) l) (subst T (w .learning a l) m)
-
-        from : T (any (lrnsAt u G n) (below (G .learners))) → T (not (eqb (r .learners) 0))
-        from h =
-            let (a, m, q) = any-out (lrnsAt u G n) (below (G .learners)) h in
-            let k : T (has (r .learners) a) = subst T (sym (w .learning a (below-out (G .learners) m))) q in
-            not-T (eqb (r .learners) 0) (λ e. subst T (has-zero a) (subst (λ (x : ℕ). T (has x a)) (eqb→eq (r .learners) 0 e) k))
-
-    pub judged : (crowded grounded : Bool) → crowded ≡ any (isCrowding kinds names tops lo hi name (r .ballot)) (below n) → grounded ≡ any (λ j. inSet lo hi j && isOffer kinds j) (below n)
-        → Judged G (nodeBy (tree t) new) (record { grounded = grounded; formed1b = not (eqb (r .form) 1) || not crowded; formed2a = not (eqb (r .form) 2) || not (eqb (r .learners) 0) })
-    unfolding places
-    judged crowded grounded hc hg =
-        let e : tree u n ≡ nodeBy (tree t) new = ap (tree u) (sym size) ∙ new-message t new (kn .ordered) (λ j m. ca .earlier j m) in
+    judged : (grounded first second : Bool) → grounded ≡ any (λ j. inSet lo hi j && isOffer kinds j) (below n) → first ≡ formed1bAt u n → second ≡ formed2aAt u G n
+        → Judged G (nodeBy (tree t) new) (record { grounded = grounded; formed1b = first; formed2a = second })
+    judged grounded first second hg h₁ h₂ =
         record {
-          grounded = hg ∙ grounded-told ∙ ap (λ (m : Message). any isProposal (tran m)) e;
-          formed1 = ap (λ (x : Bool). not (eqb (r .form) 1) || not x) hc ∙ formed1-told ∙ ap formed1b e;
-          formed2 = ap₂ (λ (x y : Bool). not x || y) (w .second) learners-told ∙ sym (formed2a-at u G n) ∙ ap (formed2a G) e;
+          grounded = hg ∙ grounded-told ∙ ap (λ (m : Message). any isProposal (tran m)) message-is;
+          formed1 = h₁ ∙ ap formed1b message-is;
+          formed2 = h₂ ∙ ap (formed2a G) message-is;
         }
+
+    -- a 2a: whether it has learners
+    module _ (mask : ℕ) (hl : (q : ℕ) → has mask q ≡ any (λ a. isQuorum G a (backedBy forms freshes tops signers n lo hi bal a) && eqb a q) (below (G .learners))) (two : o ≡ false) where
+      all-asked : G .learners ≡ pick (not o) (G .learners) 0
+      all-asked = ap (λ (z : Bool). pick (not z) (G .learners) 0) (sym two)
+
+      learners-told : not (eqb mask 0) ≡ any (lrnsAt u G n) (below (G .learners))
+      learners-told = same-test _ _ to from
+        where
+          to : T (not (eqb mask 0)) → T (any (lrnsAt u G n) (below (G .learners)))
+          to h =
+              let (a, m) = some-member mask h in
+              let l = outside mask (G .learners) all-asked hl a m in
+              any-in (lrnsAt u G n) {x = a} (below-in (G .learners) l) (subst T (learning-told mask (G .learners) all-asked hl a l) m)
+
+          from : T (any (lrnsAt u G n) (below (G .learners))) → T (not (eqb mask 0))
+          from h =
+              let (a, m, q) = any-out (lrnsAt u G n) (below (G .learners)) h in
+              let k : T (has mask a) = subst T (sym (learning-told mask (G .learners) all-asked hl a (below-out (G .learners) m))) q in
+              not-T (eqb mask 0) (λ e. subst T (has-zero a) (subst (λ (x : ℕ). T (has x a)) (eqb→eq mask 0 e) k))
+
+      pub second-judged : (grounded : Bool) → grounded ≡ any (λ j. inSet lo hi j && isOffer kinds j) (below n)
+          → Judged G (nodeBy (tree t) new) (record { grounded = grounded; formed1b = true; formed2a = not (eqb mask 0) })
+      second-judged grounded hg =
+          judged grounded true (not (eqb mask 0)) hg (sym (formed1b-at u ord n n (omega arith) ∙ ap (λ (z : Bool). not z || all alone (below n)) (first-told ∙ two)))
+          (learners-told ∙ sym (formed2a-at u G n ∙ ap (λ (z : Bool). not z || any (lrnsAt u G n) (below (G .learners))) (second-told ∙ ap not two)))
+
+    -- ---- a message that a name and a link tell from those held
+    module _ (names previous : List ℕ) (name link : ℕ) (ca : Candidate t names previous ps id prev name link) where
+      module _ (j : ℕ) (l : j < n) where
+        id-is : eqb (getD names j 0) name ≡ sameId (heldId (at u j)) id
+        id-is = ca .named j (omega arith) ∙ ap (λ (r : Held). sameId (heldId r) id) (sym (at-old j l))
+
+        previous-is : T (not (offered (at u j))) → eqb (getD names (getD previous j 0) 0) link ≡ samePrevious (heldPrevious (at u j)) prev
+        previous-is h = ca .linked j (omega arith) (subst (λ (r : Held). T (not (offered r))) (at-old j l) h) ∙ ap (λ (r : Held). samePrevious (heldPrevious r) prev) (sym (at-old j l))
+
+        fork-is : isFork kinds signers names previous sig name link j ≡ forks (tree u j) (tree u n)
+        unfolding forksHeld offered heldSigner heldId heldPrevious
+        fork-is =
+            (λ e. not (kind-is j l e) && eqb (signer-is j l e) sig && not (id-is e) && eqb (getD names (getD previous j 0) 0) link)
+            ∙ last (not (offered (at u j))) (eqb (heldSigner (at u j)) sig) (not (sameId (heldId (at u j)) id)) (eqb (getD names (getD previous j 0) 0) link)
+            (samePrevious (heldPrevious (at u j)) prev) previous-is
+            ∙ pad (not (offered (at u j))) (eqb (heldSigner (at u j)) sig) (not (sameId (heldId (at u j)) id)) (samePrevious (heldPrevious (at u j)) prev)
+            ∙ sym (forks-at u u j n ∙ ap (forksHeld (at u j)) at-new)
+
+      module _ (fl fh : ℕ) (hf : (q : ℕ) → q < 128 → inSet fl fh q ≡ any (λ j. isFork kinds signers names previous sig name link j && eqb j q) (below n)) where
+        pub forking-told : (j : ℕ) → j < 128 → inSet fl fh j ≡ (ltb j n && forks (tree u j) (tree u n))
+        forking-told j l =
+            hf j l ∙ any-at (isFork kinds signers names previous sig name link) n j
+            ∙ and-cong (ltb j n) (isFork kinds signers names previous sig name link j) (forks (tree u j) (tree u n)) (λ t. fork-is j (ltb→lt j n t))
+
+      -- ---- Caught
+      module _ (fl fh others mask : ℕ) (hf : (q : ℕ) → q < 128 → inSet fl fh q ≡ any (λ j. isFork kinds signers names previous sig name link j && eqb j q) (below n))
+          (p : ℕ) (ho : has others p ≡ any (λ j. isCaught forkLow forkHigh lo hi j && eqb (getD signers j 0) p) (below n))
+          (hm : has mask p ≡ ((meets lo hi fl fh && eqb sig p) || has others p)) where
+        abbrev inner : ℕ → ℕ → Bool
+        inner j k = reach u n k && forksHeld (at u j) (at u k)
+
+        abbrev outer : ℕ → Bool
+        outer j = reach u n j && (any (inner j) (below (suc n)) && eqb (heldSigner (at u j)) p)
+
+        there : (j k : ℕ) → j < suc n → k < suc n → T (reach u n j) → T (reach u n k) → T (forksHeld (at u j) (at u k)) → heldSigner (at u j) ≡ p → T (any outer (below (suc n)))
+        there j k lj lk rj rk f e =
+            let i : T (any (inner j) (below (suc n))) = any-in (inner j) {x = k} (below-in (suc n) lk) (and-in (reach u n k) (forksHeld (at u j) (at u k)) rk f) in
+            let s : T (eqb (heldSigner (at u j)) p) = eq→eqb e in
+            any-in outer {x = j} (below-in (suc n) lj)
+            (and-in (reach u n j) (any (inner j) (below (suc n)) && eqb (heldSigner (at u j)) p) rj (and-in (any (inner j) (below (suc n))) (eqb (heldSigner (at u j)) p) i s))
+
+        abbrev one : ℕ → Bool
+        one j = isCaught forkLow forkHigh lo hi j && eqb (getD signers j 0) p
+
+        -- two places that fork, the second below n
+        held-fork : (j k : ℕ) → j < n → (inSet (getD forkLow j 0) (getD forkHigh j 0) k) ≡ (ltb k j && forks (tree t k) (tree t j)) → k < j
+            → (inSet (getD forkLow j 0) (getD forkHigh j 0) k) ≡ forksHeld (at u k) (at u j)
+        held-fork j k l e g =
+            e ∙ and-true (ltb k j) (forks (tree t k) (tree t j)) (lt→ltb k j g) ∙ ap₂ forks (sym (old k (omega arith))) (sym (old j l)) ∙ forks-at u u k j
+
+        mine : T (meets lo hi fl fh) → T (eqb sig p) → T (any outer (below (suc n)))
+        unfolding meets
+        mine m s =
+            let (k, q, h) = any-out (λ k. inSet lo hi k && inSet fl fh k) (below 128) m in
+            let lk = below-out 128 q in
+            let f : T (ltb k n && forks (tree u k) (tree u n)) = subst T (forking-told fl fh hf k lk) (and-r (inSet lo hi k) (inSet fl fh k) h) in
+            let ln = ltb→lt k n (and-l (ltb k n) (forks (tree u k) (tree u n)) f) in
+            let g : T (forksHeld (at u k) (at u n)) = subst T (forks-at u u k n) (and-r (ltb k n) (forks (tree u k) (tree u n)) f) in
+            let r : T (reach u n k) = subst T (beneath-told k ln) (and-l (inSet lo hi k) (inSet fl fh k) h) in
+            there k n (omega arith) (omega arith) r (reach-self u ord n) g (fork-signer (at u k) (at u n) g ∙ signer-new ∙ eqb→eq sig p s)
+
+        theirs : T (any one (below n)) → T (any outer (below (suc n)))
+        unfolding meets
+        theirs h =
+            let (j, m, q) = any-out one (below n) h in
+            let lj = below-out n m in
+            let c : T (isCaught forkLow forkHigh lo hi j) = and-l (isCaught forkLow forkHigh lo hi j) (eqb (getD signers j 0) p) q in
+            let (k, mk, w) = any-out (λ k. inSet lo hi k && inSet (getD forkLow j 0) (getD forkHigh j 0) k) (below 128)
+            (and-r (inSet lo hi j) (meets lo hi (getD forkLow j 0) (getD forkHigh j 0)) c) in
+            let lk = below-out 128 mk in
+            let x : T (inSet (getD forkLow j 0) (getD forkHigh j 0) k) = and-r (inSet lo hi k) (inSet (getD forkLow j 0) (getD forkHigh j 0) k) w in
+            let e = kn .noted j (omega arith) .forking k lk in
+            let g : k < j = ltb→lt k j (and-l (ltb k j) (forks (tree t k) (tree t j)) (subst T e x)) in
+            let f : T (forksHeld (at u k) (at u j)) = subst T (held-fork j k lj e g) x in
+            let rj : T (reach u n j) = subst T (beneath-told j lj) (and-l (inSet lo hi j) (meets lo hi (getD forkLow j 0) (getD forkHigh j 0)) c) in
+            let rk : T (reach u n k) = subst T (beneath-told k (omega arith)) (and-l (inSet lo hi k) (inSet (getD forkLow j 0) (getD forkHigh j 0) k) w) in
+            there k j (omega arith) (omega arith) rk rj f
+            (fork-signer (at u k) (at u j) f ∙ sym (signer-is j lj) ∙ eqb→eq (getD signers j 0) p (and-r (isCaught forkLow forkHigh lo hi j) (eqb (getD signers j 0) p) q))
+
+        -- the later one of two that fork
+        pair : (x y : ℕ) → x < y → y ≤ n → T (reach u n x) → T (reach u n y) → T (forksHeld (at u x) (at u y)) → heldSigner (at u y) ≡ p
+            → T ((meets lo hi fl fh && eqb sig p) || any one (below n))
+        unfolding meets
+        pair x y g ly rx ry f e = step (decLt y n)
+          where
+            sx : T (inSet lo hi x)
+            sx = subst T (sym (beneath-told x (omega arith))) rx
+
+            step : Dec (y < n) → T ((meets lo hi fl fh && eqb sig p) || any one (below n))
+            step (yes l) =
+                let sy : T (inSet lo hi y) = subst T (sym (beneath-told y l)) ry in
+                let k : T (inSet (getD forkLow y 0) (getD forkHigh y 0) x) = subst T (sym (held-fork y x l (kn .noted y (omega arith) .forking x (omega arith)) g)) f in
+                let m : T (meets lo hi (getD forkLow y 0) (getD forkHigh y 0)) = any-in (λ k. inSet lo hi k && inSet (getD forkLow y 0) (getD forkHigh y 0) k) {x = x} (below-in 128 (omega arith))
+                (and-in (inSet lo hi x) (inSet (getD forkLow y 0) (getD forkHigh y 0) x) sx k) in
+                let s : T (eqb (getD signers y 0) p) = eq→eqb (signer-is y l ∙ e) in
+                or-r (meets lo hi fl fh && eqb sig p) (any one (below n))
+                (any-in one {x = y} (below-in n l) (and-in (isCaught forkLow forkHigh lo hi y) (eqb (getD signers y 0) p)
+                (and-in (inSet lo hi y) (meets lo hi (getD forkLow y 0) (getD forkHigh y 0)) sy m) s))
+            step (no l) =
+                let d : y ≡ n = omega arith in
+                let ln : x < n = omega arith in
+                let f′ : T (forksHeld (at u x) (at u n)) = subst (λ (z : ℕ). T (forksHeld (at u x) (at u z))) d f in
+                let k : T (inSet fl fh x) = subst T (sym (forking-told fl fh hf x (omega arith)))
+                (and-in (ltb x n) (forks (tree u x) (tree u n)) (lt→ltb x n ln) (subst T (sym (forks-at u u x n)) f′)) in
+                let m : T (meets lo hi fl fh) = any-in (λ k. inSet lo hi k && inSet fl fh k) {x = x} (below-in 128 (omega arith)) (and-in (inSet lo hi x) (inSet fl fh x) sx k) in
+                let s : T (eqb sig p) = eq→eqb (sym signer-new ∙ ap (λ (z : ℕ). heldSigner (at u z)) (sym d) ∙ e) in
+                or-l (meets lo hi fl fh && eqb sig p) (any one (below n)) (and-in (meets lo hi fl fh) (eqb sig p) m s)
+
+        caught-told : has mask p ≡ caughtAt u n p
+        caught-told = hm ∙ ap (λ (x : Bool). (meets lo hi fl fh && eqb sig p) || x) ho ∙ same-test _ _ to from ∙ sym (caught-at u ord n p (suc n) (omega arith))
+          where
+            to : T ((meets lo hi fl fh && eqb sig p) || any one (below n)) → T (any outer (below (suc n)))
+            to h = step (or-out (meets lo hi fl fh && eqb sig p) (any one (below n)) h)
+              where
+                step : T (meets lo hi fl fh && eqb sig p) ⊎ T (any one (below n)) → T (any outer (below (suc n)))
+                step (inl k) = mine (and-l (meets lo hi fl fh) (eqb sig p) k) (and-r (meets lo hi fl fh) (eqb sig p) k)
+                step (inr k) = theirs k
+
+            from : T (any outer (below (suc n))) → T ((meets lo hi fl fh && eqb sig p) || any one (below n))
+            from h =
+                let (j, m, q) = any-out outer (below (suc n)) h in
+                let r : T (any (inner j) (below (suc n)) && eqb (heldSigner (at u j)) p) = and-r (reach u n j) (any (inner j) (below (suc n)) && eqb (heldSigner (at u j)) p) q in
+                let (k, mk, w) = any-out (inner j) (below (suc n)) (and-l (any (inner j) (below (suc n))) (eqb (heldSigner (at u j)) p) r) in
+                let lj = below-out (suc n) m in
+                let lk = below-out (suc n) mk in
+                let rj : T (reach u n j) = and-l (reach u n j) (any (inner j) (below (suc n)) && eqb (heldSigner (at u j)) p) q in
+                let rk : T (reach u n k) = and-l (reach u n k) (forksHeld (at u j) (at u k)) w in
+                let f : T (forksHeld (at u j) (at u k)) = and-r (reach u n k) (forksHeld (at u j) (at u k)) w in
+                let e : heldSigner (at u j) ≡ p = eqb→eq (heldSigner (at u j)) p (and-r (any (inner j) (below (suc n))) (eqb (heldSigner (at u j)) p) r) in
+                step j k lj lk rj rk f e (decLt j k) (decLt k j)
+              where
+                step : (j k : ℕ) → j < suc n → k < suc n → T (reach u n j) → T (reach u n k) → T (forksHeld (at u j) (at u k)) → heldSigner (at u j) ≡ p → Dec (j < k) → Dec (k < j)
+                    → T ((meets lo hi fl fh && eqb sig p) || any one (below n))
+                step j k lj lk rj rk f e (yes a) b = pair j k a (omega arith) rj rk f (sym (fork-signer (at u j) (at u k) f) ∙ e)
+                step j k lj lk rj rk f e (no a) (yes b) = pair k j b (omega arith) rk rj (fork-swap (at u j) (at u k) f) e
+                step j k lj lk rj rk f e (no a) (no b) =
+                    let d : k ≡ j = omega arith in
+                    absurd (fork-other (at u j) (subst (λ (z : ℕ). T (forksHeld (at u j) (at u z))) d f))
+
+      -- ---- all that is worked out
+      pub told : (fl fh others mask against free learned firsts seconds v form : ℕ) → G .acceptors ≤ 32
+          → ((q : ℕ) → q < 128 → inSet fl fh q ≡ any (λ j. isFork kinds signers names previous sig name link j && eqb j q) (below n))
+          → ((p : ℕ) → p < 32 → has others p ≡ any (λ j. isCaught forkLow forkHigh lo hi j && eqb (getD signers j 0) p) (below n))
+          → ((p : ℕ) → p < 32 → has mask p ≡ ((meets lo hi fl fh && eqb sig p) || has others p))
+          → firsts ≡ pick o (G .learners) 0 → v ≡ valueOf bal
+          → ((q : ℕ) → has against q ≡ any (λ b. isBarred forms learners signers tops n lo hi sig v b && eqb b q) (below firsts))
+          → ((q : ℕ) → has free q ≡ any (λ a. not (any (λ b. safeWithout G a b (has mask) && has against b) (below (G .learners))) && eqb a q) (below firsts))
+          → seconds ≡ pick (not o) (G .learners) 0
+          → ((q : ℕ) → has learned q ≡ any (λ a. isQuorum G a (backedBy forms freshes tops signers n lo hi bal a) && eqb a q) (below seconds))
+          → form ≡ pick o 1 2
+          → Told G u n (record { beneath = record { low = lo; high = hi }; forks = record { low = fl; high = fh }; ballot = bal; learners = learned; fresh = free; form = form })
+      told fl fh others mask against free learned firsts seconds v form few hf ho hm hk hv ha hr hs hl hform =
+          record {
+            reaches = beneath-told;
+            none = none-told;
+            forking = forking-told fl fh hf;
+            ballot = ballot-told;
+            first = ap (λ (x : ℕ). eqb x 1) hform ∙ firsts-form o ∙ sym first-told;
+            second = ap (λ (x : ℕ). eqb x 2) hform ∙ seconds-form o ∙ sym second-told;
+            learning = learning-told learned seconds hs hl;
+            within = outside learned seconds hs hl;
+            freshly = λ a la one. fresh-told mask against free firsts v hv hk caught ha hr one a la;
+          }
+        where
+          caught : (p : ℕ) → p < G .acceptors → has mask p ≡ caughtAt u n p
+          caught p lp = caught-told fl fh others mask hf p (ho p (omega arith)) (hm p (omega arith))
+
+          firsts-form : (z : Bool) → eqb (pick z 1 2) 1 ≡ z
+          firsts-form true = refl
+          firsts-form false = refl
+
+          seconds-form : (z : Bool) → eqb (pick z 1 2) 2 ≡ not z
+          seconds-form true = refl
+          seconds-form false = refl
+
+      -- a 1b: whether another message crowds it
+      crowded-told : any (isCrowding kinds names tops lo hi name bal) (below n) ≡ not (all alone (below n))
+      unfolding heldId
+      crowded-told =
+          any-cong (isCrowding kinds names tops lo hi name bal) (λ j. not (alone j)) (below n) (λ j m. step j (below-out n m)) ∙ any-not-all (λ j. not (alone j)) alone (below n) (λ j. refl)
+        where
+          same : (j : ℕ) (l : j < n) → eqb (getD names j 0) name ≡ sameId (heldId (at u j)) (heldId (at u n))
+          same j l = id-is j l ∙ ap (λ (r : Held). sameId (heldId (at u j)) (heldId r)) (sym at-new)
+
+          step : (j : ℕ) (l : j < n) → isCrowding kinds names tops lo hi name bal j ≡ not (alone j)
+          step j l =
+              (λ e. beneath-told j l e && not (same j l e) && eqb (top-is j l e) (ballot-told e) && not (kind-is j l e))
+              ∙ denied (reach u n j) (sameId (heldId (at u j)) (heldId (at u n))) (eqb (ballotAt u j) (ballotAt u n)) (offered (at u j))
+
+      pub first-judged : (crowded grounded : Bool) → crowded ≡ any (isCrowding kinds names tops lo hi name bal) (below n)
+          → grounded ≡ any (λ j. inSet lo hi j && isOffer kinds j) (below n) → o ≡ true
+          → Judged G (nodeBy (tree t) new) (record { grounded = grounded; formed1b = not crowded; formed2a = true })
+      first-judged crowded grounded hc hg one =
+          judged grounded (not crowded) true hg
+          (ap not (hc ∙ crowded-told) ∙ not-not (all alone (below n)) ∙ sym (formed1b-at u ord n n (omega arith) ∙ ap (λ (z : Bool). not z || all alone (below n)) (first-told ∙ one)))
+          (sym (formed2a-at u G n ∙ ap (λ (z : Bool). not z || any (lrnsAt u G n) (below (G .learners))) (second-told ∙ ap not one)))

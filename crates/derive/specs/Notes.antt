@@ -73,24 +73,28 @@ pub record Judged (G : LearnerGraph) (m : Message) (r : Note) : Type 0 where
 abbrev pub Marked : ℕ → List ℕ → List ℕ → ℕ → ℕ → Type 0
 Marked n forkLow forkHigh low high = (j k : ℕ) → j < n → k < 128 → T (inSet (getD forkLow j 0) (getD forkHigh j 0) k) → T (inSet low high j)
 
--- ---- the index of the places: 232 sets, one for each key that a message can be looked for by. Places with other signers, links or ballots may fall
+-- ---- the index of the places: a set for each key that a message can be looked for by. Places with other signers, links or ballots may fall
 -- into one set: a set only spares the walk over all places, and each place of it is still asked.
+abbrev pub keys : ℕ
+keys = 72
+
+-- by the signer
 abbrev pub signerKey : ℕ → ℕ
 signerKey s = s % 32
 
 -- by the name of the previous message, or 255
 abbrev pub linkKey : ℕ → ℕ
-linkKey x = 32 + x % 128
+linkKey x = 32 + x % 16
 
 -- by the upper half of the ballot
 abbrev pub ballotKey : ℕ → ℕ
-ballotKey x = 160 + x / 4294967296 % 64
+ballotKey x = 48 + x / 4294967296 % 16
 
 abbrev pub formKey : ℕ → ℕ
-formKey f = 224 + f % 4
+formKey f = 64 + f % 4
 
 abbrev pub kindKey : ℕ → ℕ
-kindKey k = 228 + k % 4
+kindKey k = 68 + k % 4
 
 -- place j is in the set of a key
 abbrev pub Filed : List ℕ → List ℕ → ℕ → ℕ → Type 0
@@ -104,15 +108,15 @@ pub record Marks (n : ℕ) (kinds signers names previous forkLow forkHigh tops f
   pub byForm : Indexed n (λ j. formKey (getD forms j 0)) keyLow keyHigh
   pub byKind : Indexed n (λ j. kindKey (getD kinds j 0)) keyLow keyHigh
   pub forked : Marked n forkLow forkHigh low high
-  pub keyLowFit : length keyLow ≡ 232
-  pub keyHighFit : length keyHigh ≡ 232
+  pub keyLowFit : length keyLow ≡ keys
+  pub keyHighFit : length keyHigh ≡ keys
 
 -- the part of the index that a report asks
 pub record Voting (n : ℕ) (tops forms keyLow keyHigh : List ℕ) : Type 0 where
   pub byBallot : Indexed n (λ j. ballotKey (getD tops j 0)) keyLow keyHigh
   pub byForm : Indexed n (λ j. formKey (getD forms j 0)) keyLow keyHigh
-  pub keyLowFit : length keyLow ≡ 232
-  pub keyHighFit : length keyHigh ≡ 232
+  pub keyLowFit : length keyLow ≡ keys
+  pub keyHighFit : length keyHigh ≡ keys
 
 -- place j is put into the sets of its keys, and no set loses a place
 pub record Put (keyLow keyHigh keyLow′ keyHigh′ : List ℕ) (kind signer link ballot form j : ℕ) : Type 0 where
@@ -122,8 +126,12 @@ pub record Put (keyLow keyHigh keyLow′ keyHigh′ : List ℕ) (kind signer lin
   pub ofBallot : Filed keyLow′ keyHigh′ (ballotKey ballot) j
   pub ofForm : Filed keyLow′ keyHigh′ (formKey form) j
   pub ofKind : Filed keyLow′ keyHigh′ (kindKey kind) j
-  pub lowKept : length keyLow′ ≡ 232
-  pub highKept : length keyHigh′ ≡ 232
+  pub lowKept : length keyLow′ ≡ keys
+  pub highKept : length keyHigh′ ≡ keys
+
+-- ---- a set has each place of (low, high) that is filed as a 1b and under the ballot
+abbrev pub Backing : List ℕ → List ℕ → ℕ → ℕ → ℕ → ℕ → ℕ → Type 0
+Backing keyLow keyHigh low high ballot x y = (q : ℕ) → q < 128 → T (inSet low high q) → Filed keyLow keyHigh (formKey 1) q → Filed keyLow keyHigh (ballotKey ballot) q → T (inSet x y q)
 
 -- ---- the places that are asked for a message which reaches the set (low, high), has this ballot, signer and link
 pub record Walked (keyLow keyHigh : List ℕ) (forkedLow forkedHigh low high ballot signer link : ℕ) (r : Walks) : Type 0 where
@@ -131,7 +139,7 @@ pub record Walked (keyLow keyHigh : List ℕ) (forkedLow forkedHigh low high bal
   pub catching : (q : ℕ) → q < 128 → T (inSet low high q) → T (inSet forkedLow forkedHigh q) → T (inSet (r .caught .low) (r .caught .high) q)
   pub voting : (q : ℕ) → q < 128 → T (inSet low high q) → Filed keyLow keyHigh (formKey 2) q → T (inSet (r .votes .low) (r .votes .high) q)
   pub rivalling : (q : ℕ) → q < 128 → T (inSet low high q) → Filed keyLow keyHigh (formKey 2) q → Filed keyLow keyHigh (signerKey signer) q → T (inSet (r .rivals .low) (r .rivals .high) q)
-  pub backing : (q : ℕ) → q < 128 → T (inSet low high q) → Filed keyLow keyHigh (formKey 1) q → Filed keyLow keyHigh (ballotKey ballot) q → T (inSet (r .backers .low) (r .backers .high) q)
+  pub backing : Backing keyLow keyHigh low high ballot (r .backers .low) (r .backers .high)
 
 -- ---- numbers and lengths in range
 pub record Ready (acceptors l n : ℕ) (counts masks kinds signers names previous low high forkLow forkHigh tops learners fresh forms places : List ℕ) : Type 0 where

@@ -1,8 +1,6 @@
 // One place more: a message that is taken leaves the notes of the places before it as they are, so that it is noted without another pass.
 use crate::Notes;
-use crate::index::mark;
-use crate::pass::note_held;
-use base::size;
+use crate::pass::extended;
 use graph::Mask;
 use scan::names::id_key;
 use scan::names::name_of;
@@ -40,7 +38,8 @@ pub fn grown<'a>(
     let s = with_place(notes.idlow[k], notes.idhigh[k], n, true);
     notes.idlow[k] = s.low;
     notes.idhigh[k] = s.high;
-    let r = note_held(
+    extended(
+        notes,
         lists,
         masks,
         kinds,
@@ -49,50 +48,9 @@ pub fn grown<'a>(
         previous,
         counts,
         references,
-        &notes.names,
-        &notes.low,
-        &notes.high,
-        &notes.forklow,
-        &notes.forkhigh,
-        &notes.tops,
-        &notes.learners,
-        &notes.fresh,
-        &notes.forms,
-        &notes.keylow,
-        &notes.keyhigh,
         acceptors,
         l,
+        n,
         n + 1,
-        n,
-        notes.forked,
-    );
-    let b = r.beneath;
-    let f = r.forks;
-    notes.low[n] = b.low;
-    notes.high[n] = b.high;
-    notes.forklow[n] = f.low;
-    notes.forkhigh[n] = f.high;
-    notes.tops[n] = r.ballot;
-    notes.learners[n] = r.learners;
-    notes.fresh[n] = r.fresh;
-    notes.forms[n] = r.form;
-    let at = size(previous[n]);
-    let link = notes.names[at];
-    let mut keylow = notes.keylow;
-    let mut keyhigh = notes.keyhigh;
-    mark(
-        &mut keylow,
-        &mut keyhigh,
-        kinds[n],
-        signers[n],
-        link,
-        r.ballot,
-        r.form,
-        n,
-    );
-    notes.keylow = keylow;
-    notes.keyhigh = keyhigh;
-    let old = notes.forked;
-    notes.forked = with_place(old.low, old.high, n, (f.low != 0) | (f.high != 0));
-    notes
+    )
 }

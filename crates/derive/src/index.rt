@@ -10,14 +10,17 @@ ghost use Prim.Native.Nat.{ℕ, _<_};
 ghost use lib.Dec.{T};
 ghost use lib.ListN.{length, getD};
 ghost use Rattle.scan.specs.PlaceSets.{inSet};
-ghost use Rattle.derive.specs.Notes.{signerKey, linkKey, ballotKey, formKey, kindKey, Filed, Put, Walked};
+ghost use Rattle.derive.specs.Notes.{keys, signerKey, linkKey, ballotKey, formKey, kindKey, Filed, Put, Backing, Walked};
+
+// How many keys there are.
+pub const KEYS: usize = 72;
 
 // The keys of 1bs, of 2as and of proposals.
-const FIRSTS: usize = 225;
+const FIRSTS: usize = 65;
 
-pub const SECONDS: usize = 226;
+pub const SECONDS: usize = 66;
 
-pub const OFFERS: usize = 229;
+pub const OFFERS: usize = 69;
 
 fn signer_key(signer: u8) -> usize
     ensures { λ r. ⌜ r ≡ signerKey signer ⌝ }
@@ -28,25 +31,25 @@ fn signer_key(signer: u8) -> usize
 fn link_key(link: u8) -> usize
     ensures { λ r. ⌜ r ≡ linkKey link ⌝ }
 {
-    32 + size(link) % 128
+    32 + size(link) % 16
 }
 
 pub fn ballot_key(ballot: u64) -> usize
     ensures { λ r. ⌜ r ≡ ballotKey ballot ⌝ }
 {
-    160 + ((ballot >> 32) % 64) as usize
+    48 + ((ballot >> 32) % 16) as usize
 }
 
 fn form_key(form: u8) -> usize
     ensures { λ r. ⌜ r ≡ formKey form ⌝ }
 {
-    224 + size(form) % 4
+    64 + size(form) % 4
 }
 
 fn kind_key(kind: u8) -> usize
     ensures { λ r. ⌜ r ≡ kindKey kind ⌝ }
 {
-    228 + size(kind) % 4
+    68 + size(kind) % 4
 }
 
 // Those of a set that are in the set of key k.
@@ -59,11 +62,26 @@ pub fn within<'a>(key_low: &'a [u64], key_high: &'a [u64], k: usize, low: u64, h
 
 // The places of 2as with this ballot, and perhaps others.
 pub fn votes_of<'a>(key_low: &'a [u64], key_high: &'a [u64], ballot: u64) -> Places
-    requires { ⌜ (length (now «key_low») ≡ 232) × (length (now «key_high») ≡ 232) ⌝ }
+    requires { ⌜ (length (now «key_low») ≡ keys) × (length (now «key_high») ≡ keys) ⌝ }
     ensures { λ r. ⌜ ((q : ℕ) → q < 128 → Filed (now («key_low» .entry)) (now («key_high» .entry)) (formKey 2) q → Filed (now («key_low» .entry)) (now («key_high» .entry)) (ballotKey ballot) q → T (inSet (r .low) (r .high) q)) ⌝ }
 {
     let k = ballot_key(ballot);
     within(key_low, key_high, k, key_low[SECONDS], key_high[SECONDS])
+}
+
+// The places of a set that hold 1bs of this ballot, and perhaps others.
+pub fn backers_of<'a>(
+    key_low: &'a [u64],
+    key_high: &'a [u64],
+    low: u64,
+    high: u64,
+    ballot: u64,
+) -> Places
+    requires { ⌜ (length (now «key_low») ≡ keys) × (length (now «key_high») ≡ keys) ⌝ }
+    ensures { λ r. ⌜ Backing (now («key_low» .entry)) (now («key_high» .entry)) low high ballot (r .low) (r .high) ⌝ }
+{
+    let ones = within(key_low, key_high, FIRSTS, low, high);
+    within(key_low, key_high, ballot_key(ballot), ones.low, ones.high)
 }
 
 // The places to be asked for a message that reaches the set (low, high); `forked` has each place that forks with one before it.
@@ -77,7 +95,7 @@ pub fn walks_for<'a>(
     signer: u8,
     link: u8,
 ) -> Walks
-    requires { ⌜ (length (now «key_low») ≡ 232) × (length (now «key_high») ≡ 232) ⌝ }
+    requires { ⌜ (length (now «key_low») ≡ keys) × (length (now «key_high») ≡ keys) ⌝ }
     ensures { λ r. ⌜ Walked (now («key_low» .entry)) (now («key_high» .entry)) (forked .low) (forked .high) low high ballot signer link r ⌝ }
 {
     let s = signer_key(signer);
@@ -85,8 +103,7 @@ pub fn walks_for<'a>(
     let caught = common(low, high, forked.low, forked.high);
     let votes = within(key_low, key_high, SECONDS, low, high);
     let rivals = within(key_low, key_high, s, votes.low, votes.high);
-    let ones = within(key_low, key_high, FIRSTS, low, high);
-    let backers = within(key_low, key_high, ballot_key(ballot), ones.low, ones.high);
+    let backers = backers_of(key_low, key_high, low, high, ballot);
     Walks {
         forks,
         caught,
@@ -107,7 +124,7 @@ pub fn mark(
     form: u8,
     j: usize,
 )
-    requires { ⌜ (j < 128) × ((length (now low) ≡ 232) × (length (now high) ≡ 232)) ⌝ }
+    requires { ⌜ (j < 128) × ((length (now low) ≡ keys) × (length (now high) ≡ keys)) ⌝ }
     ensures { λ _. ⌜ Put (now (low .entry)) (now (high .entry)) (now (low .exit)) (now (high .exit)) kind signer link ballot form j ⌝ }
 {
     put_place(low, high, signer_key(signer), j);

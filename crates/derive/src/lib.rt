@@ -1,5 +1,7 @@
 // What follows from the messages that a round holds: for each place what lies beneath it, its ballot, whether it is a 1b or a 2a, for which
 // learners it is fresh or counts, and whether it is well-formed. One pass over the places, each from those before it; the arrays are lent.
+use crate::index::KEYS;
+use scan::ID_KEYS;
 use scan::Places;
 
 pub mod grow;
@@ -8,7 +10,7 @@ pub mod pass;
 pub mod report;
 pub mod step;
 
-// What is worked out for a message, held or new.
+// What is worked out for a held message.
 pub struct Worked {
     // The places that it reaches.
     pub beneath: Places,
@@ -45,10 +47,10 @@ pub struct Notes {
     pub fresh: [u8; 128],
     pub forms: [u8; 128],
     // The places by the key of their ids, and by the keys of the index.
-    pub idlow: [u64; 128],
-    pub idhigh: [u64; 128],
-    pub keylow: [u64; 232],
-    pub keyhigh: [u64; 232],
+    pub idlow: [u64; ID_KEYS],
+    pub idhigh: [u64; ID_KEYS],
+    pub keylow: [u64; KEYS],
+    pub keyhigh: [u64; KEYS],
     // The places that fork with one before them.
     pub forked: Places,
 }

@@ -2,7 +2,9 @@
 use crate::Note;
 use crate::Notes;
 use crate::Worked;
+use crate::index::KEYS;
 use crate::index::OFFERS;
+use crate::index::backers_of;
 use crate::index::ballot_key;
 use crate::index::mark;
 use crate::index::within;
@@ -12,6 +14,8 @@ use graph::Mask;
 use scan::Places;
 use scan::beneath::is_crowded;
 use scan::beneath::is_grounded;
+use scan::beneath::under;
+use scan::learners::learners_for;
 use scan::names::name_of;
 use scan::names::names_of;
 use scan::sets::with_place;
@@ -23,12 +27,12 @@ ghost use lib.ListN.{length};
 ghost use Rattle.base.specs.Tests.{_∈_};
 ghost use Rattle.graph.specs.Held.{heldGraph, Sized};
 ghost use Rattle.protocol.specs.Table.{says, nodeBy, tree};
-ghost use Rattle.scan.specs.Arrays.{Whole, Named, IdsIndexed};
+ghost use Rattle.scan.specs.Arrays.{Whole, Named, idKeys, IdsIndexed};
 ghost use Rattle.derive.specs.Records.{namedIn, tableIn, Fit, Lengths};
 ghost use Rattle.derive.specs.Notes.{NotedBy, Known, Judged, Marks, Ready};
 
 // The held message at place p, with the place itself among those that it reaches.
-pub fn note_held<'a>(
+fn note_held<'a>(
     lists: &'a [u8],
     masks: &'a [Mask],
     kinds: &'a [u8],
@@ -114,6 +118,92 @@ pub fn note_held<'a>(
     }
 }
 
+// The notes of n places, from those of the first `from`. The places have their names.
+pub fn extended<'a>(
+    mut notes: Notes,
+    lists: &'a [u8],
+    masks: &'a [Mask],
+    kinds: &'a [u8],
+    signers: &'a [u8],
+    ballots: &'a [u64],
+    previous: &'a [u8],
+    counts: &'a [u8],
+    references: &'a [u8],
+    acceptors: u8,
+    l: usize,
+    from: usize,
+    n: usize,
+) -> Notes
+    requires { ⌜ (acceptors ≤ 32) × ((l ≤ 8) × (Sized (now lists) (now masks) × (Fit n (now kinds) (now previous) (now counts) (now references)
+        × (Whole (now kinds) × (Whole (now signers) × (Whole (now ballots) × (Whole (now previous) × (Whole (now counts) × ((length (now references) ≡ 16384)
+        × ((from ≤ n) × Marks from (now kinds) (now signers) (notes .names) (now previous) (notes .forklow) (notes .forkhigh) (notes .tops) (notes .forms) (notes .keylow) (notes .keyhigh) (notes .forked .low) (notes .forked .high))))))))))) ⌝ }
+    ensures { λ r. ⌜ (r .names ≡ notes .names) × ((r .idlow ≡ notes .idlow) × (r .idhigh ≡ notes .idhigh)) ⌝ }
+    ensures { λ r. ⌜ Marks n (now (kinds .entry)) (now (signers .entry)) (r .names) (now (previous .entry)) (r .forklow) (r .forkhigh) (r .tops) (r .forms) (r .keylow) (r .keyhigh) (r .forked .low) (r .forked .high)
+        × ((ids : List ℕ) → Named ids n (notes .names)
+        → Known (heldGraph acceptors l (now (lists .entry)) (now (masks .entry))) (tableIn ids (now (kinds .entry)) (now (signers .entry)) (now (ballots .entry)) (now (previous .entry)) (now (counts .entry)) (now (references .entry)) from) (now (kinds .entry)) (now (signers .entry)) (notes .low) (notes .high) (notes .forklow) (notes .forkhigh) (notes .tops) (notes .learners) (notes .fresh) (notes .forms)
+        → Known (heldGraph acceptors l (now (lists .entry)) (now (masks .entry))) (tableIn ids (now (kinds .entry)) (now (signers .entry)) (now (ballots .entry)) (now (previous .entry)) (now (counts .entry)) (now (references .entry)) n) (now (kinds .entry)) (now (signers .entry)) (r .low) (r .high) (r .forklow) (r .forkhigh) (r .tops) (r .learners) (r .fresh) (r .forms)) ⌝ }
+{
+    let mut keylow = notes.keylow;
+    let mut keyhigh = notes.keyhigh;
+    let mut p: usize = from;
+    while p < n {
+        let r = note_held(
+            lists,
+            masks,
+            kinds,
+            signers,
+            ballots,
+            previous,
+            counts,
+            references,
+            &notes.names,
+            &notes.low,
+            &notes.high,
+            &notes.forklow,
+            &notes.forkhigh,
+            &notes.tops,
+            &notes.learners,
+            &notes.fresh,
+            &notes.forms,
+            &keylow,
+            &keyhigh,
+            acceptors,
+            l,
+            n,
+            p,
+            notes.forked,
+        );
+        let b = r.beneath;
+        let f = r.forks;
+        notes.low[p] = b.low;
+        notes.high[p] = b.high;
+        notes.forklow[p] = f.low;
+        notes.forkhigh[p] = f.high;
+        notes.tops[p] = r.ballot;
+        notes.learners[p] = r.learners;
+        notes.fresh[p] = r.fresh;
+        notes.forms[p] = r.form;
+        let at = size(previous[p]);
+        let link = notes.names[at];
+        mark(
+            &mut keylow,
+            &mut keyhigh,
+            kinds[p],
+            signers[p],
+            link,
+            r.ballot,
+            r.form,
+            p,
+        );
+        let old = notes.forked;
+        notes.forked = with_place(old.low, old.high, p, (f.low != 0) | (f.high != 0));
+        p += 1;
+    }
+    notes.keylow = keylow;
+    notes.keyhigh = keyhigh;
+    notes
+}
+
 // The notes of the first n places of a round.
 pub fn work_out<'a>(
     lists: &'a [u8],
@@ -137,72 +227,22 @@ pub fn work_out<'a>(
         × Marks n (now (kinds .entry)) (now (signers .entry)) (r .names) (now (previous .entry)) (r .forklow) (r .forkhigh) (r .tops) (r .forms) (r .keylow) (r .keyhigh) (r .forked .low) (r .forked .high) ⌝ }
 {
     let named = names_of(ids, n);
-    let mut low = [0u64; 128];
-    let mut high = [0u64; 128];
-    let mut forklow = [0u64; 128];
-    let mut forkhigh = [0u64; 128];
-    let mut tops = [0u64; 128];
-    let mut learners = [0u8; 128];
-    let mut fresh = [0u8; 128];
-    let mut forms = [0u8; 128];
-    let mut keylow = [0u64; 232];
-    let mut keyhigh = [0u64; 232];
-    let mut forked = Places { low: 0, high: 0 };
-    let mut p: usize = 0;
-    while p < n {
-        let r = note_held(
-            lists,
-            masks,
-            kinds,
-            signers,
-            ballots,
-            previous,
-            counts,
-            references,
-            &named.names,
-            &low,
-            &high,
-            &forklow,
-            &forkhigh,
-            &tops,
-            &learners,
-            &fresh,
-            &forms,
-            &keylow,
-            &keyhigh,
-            acceptors,
-            l,
-            n,
-            p,
-            forked,
-        );
-        let b = r.beneath;
-        let f = r.forks;
-        low[p] = b.low;
-        high[p] = b.high;
-        forklow[p] = f.low;
-        forkhigh[p] = f.high;
-        tops[p] = r.ballot;
-        learners[p] = r.learners;
-        fresh[p] = r.fresh;
-        forms[p] = r.form;
-        let at = size(previous[p]);
-        let link = named.names[at];
-        mark(
-            &mut keylow,
-            &mut keyhigh,
-            kinds[p],
-            signers[p],
-            link,
-            r.ballot,
-            r.form,
-            p,
-        );
-        forked = with_place(forked.low, forked.high, p, (f.low != 0) | (f.high != 0));
-        p += 1;
-    }
-    Notes {
-        names: named.names,
+    let names = named.names;
+    let idlow = named.key_low;
+    let idhigh = named.key_high;
+    let low = [0u64; 128];
+    let high = [0u64; 128];
+    let forklow = [0u64; 128];
+    let forkhigh = [0u64; 128];
+    let tops = [0u64; 128];
+    let learners = [0u8; 128];
+    let fresh = [0u8; 128];
+    let forms = [0u8; 128];
+    let keylow = [0u64; KEYS];
+    let keyhigh = [0u64; KEYS];
+    let forked = Places { low: 0, high: 0 };
+    let notes = Notes {
+        names,
         low,
         high,
         forklow,
@@ -211,12 +251,27 @@ pub fn work_out<'a>(
         learners,
         fresh,
         forms,
-        idlow: named.key_low,
-        idhigh: named.key_high,
+        idlow,
+        idhigh,
         keylow,
         keyhigh,
         forked,
-    }
+    };
+    extended(
+        notes,
+        lists,
+        masks,
+        kinds,
+        signers,
+        ballots,
+        previous,
+        counts,
+        references,
+        acceptors,
+        l,
+        0,
+        n,
+    )
 }
 
 // A message that the round does not hold, judged by the notes of the n places that it does: an acceptor message with this id and signer that
@@ -251,49 +306,45 @@ pub fn note_new<'a>(
     forked: Places,
 ) -> Note
     requires { ⌜ (length (now ids) ≡ 4096) × (Ready acceptors l n (now lists) (now masks) (now kinds) (now signers) (now names) (now previous) (now low) (now high) (now forklow) (now forkhigh) (now tops) (now learners) (now fresh) (now forms) (now places)
-        × ((length (now idlow) ≡ 128) × ((length (now idhigh) ≡ 128) × (IdsIndexed (now ids) n (now idlow) (now idhigh)
+        × ((length (now idlow) ≡ idKeys) × ((length (now idhigh) ≡ idKeys) × (IdsIndexed (now ids) n (now idlow) (now idhigh)
         × Marks n (now kinds) (now signers) (now names) (now previous) (now forklow) (now forkhigh) (now tops) (now forms) (now keylow) (now keyhigh) (forked .low) (forked .high))))) ⌝ }
     ensures { λ r. ⌜ ((ballots counts references : List ℕ) → Fit n (now (kinds .entry)) (now (previous .entry)) counts references → Named (now (ids .entry)) n (now (names .entry))
         → (prev ≡ 255) ⊎ (prev < n) → ((j : ℕ) → j ∈ (now (places .entry)) → j < n)
         → Known (heldGraph acceptors l (now (lists .entry)) (now (masks .entry))) (tableIn (now (ids .entry)) (now (kinds .entry)) (now (signers .entry)) ballots (now (previous .entry)) counts references n) (now (kinds .entry)) (now (signers .entry)) (now (low .entry)) (now (high .entry)) (now (forklow .entry)) (now (forkhigh .entry)) (now (tops .entry)) (now (learners .entry)) (now (fresh .entry)) (now (forms .entry))
         → Judged (heldGraph acceptors l (now (lists .entry)) (now (masks .entry))) (nodeBy (tree (tableIn (now (ids .entry)) (now (kinds .entry)) (now (signers .entry)) ballots (now (previous .entry)) counts references n)) (says (now (id .entry)) signer (namedIn (now (ids .entry)) prev) (now (places .entry)))) r) ⌝ }
 {
-    let name = name_of(ids, n, id, idlow, idhigh) as u8;
-    let at = size(prev);
-    let r = step(
+    let u = under(low, high, tops, kinds, places);
+    let offers = within(keylow, keyhigh, OFFERS, u.low, u.high);
+    let grounded = is_grounded(kinds, n, u.low, u.high, offers);
+    if u.offered {
+        let name = name_of(ids, n, id, idlow, idhigh) as u8;
+        let peers = within(keylow, keyhigh, ballot_key(u.ballot), u.low, u.high);
+        let crowded = is_crowded(kinds, names, tops, n, u.low, u.high, name, u.ballot, peers);
+        return Note {
+            grounded,
+            formed1b: !crowded,
+            formed2a: true,
+        };
+    }
+    let backers = backers_of(keylow, keyhigh, u.low, u.high, u.ballot);
+    let learned = learners_for(
         lists,
         masks,
-        kinds,
-        signers,
-        names,
-        previous,
-        low,
-        high,
-        forklow,
-        forkhigh,
-        tops,
-        learners,
-        fresh,
         forms,
-        keylow,
-        keyhigh,
-        places,
+        fresh,
+        tops,
+        signers,
         acceptors,
         l,
         n,
-        signer,
-        name,
-        names[at],
-        forked,
+        u.low,
+        u.high,
+        u.ballot,
+        backers,
     );
-    let b = r.beneath;
-    let peers = within(keylow, keyhigh, ballot_key(r.ballot), b.low, b.high);
-    let crowded = is_crowded(kinds, names, tops, n, b.low, b.high, name, r.ballot, peers);
-    let offers = within(keylow, keyhigh, OFFERS, b.low, b.high);
-    let grounded = is_grounded(kinds, n, b.low, b.high, offers);
     Note {
         grounded,
-        formed1b: (r.form != 1) | !crowded,
-        formed2a: (r.form != 2) | (r.learners != 0),
+        formed1b: true,
+        formed2a: learned != 0,
     }
 }

@@ -7,9 +7,10 @@ use base::value;
 use graph::Mask;
 use graph::lists::is_quorum;
 use scan::Places;
+use scan::sets::first_in;
 use scan::sets::has_learner;
-use scan::sets::next_in;
 use scan::sets::with_acceptor;
+use scan::sets::without_first;
 ghost use mathlib.Core.Path.{_≡_};
 ghost use Prim.Native.Nat.{ℕ, _≤_, _<_};
 ghost use lib.ListN.{length, getD};
@@ -56,11 +57,13 @@ fn voters<'a>(
     ensures { λ r. ⌜ ((p : ℕ) → p < 32 → has r p ≡ votersFor (now (known .entry)) (now (forms .entry)) (now (learners .entry)) (now (tops .entry)) (now (signers .entry)) n a x p) ⌝ }
 {
     let mut mask: Mask = 0;
-    let mut j: usize = next_in(walk.low, walk.high, 0, n);
+    let mut rest = walk;
+    let mut j: usize = first_in(rest.low, rest.high, n);
     while j < n {
         let on = is_voter(known, forms, learners, tops, a, x, j);
         mask = with_acceptor(mask, signers[j], on);
-        j = next_in(walk.low, walk.high, j + 1, n);
+        rest = without_first(rest.low, rest.high);
+        j = first_in(rest.low, rest.high, n);
     }
     mask
 }
@@ -181,7 +184,8 @@ fn least_deciding<'a>(
     };
     let low = keylow[SECONDS];
     let high = keyhigh[SECONDS];
-    let mut j: usize = next_in(low, high, 0, n);
+    let mut rest = Places { low, high };
+    let mut j: usize = first_in(rest.low, rest.high, n);
     while j < n {
         least = lower(
             lists,
@@ -201,7 +205,8 @@ fn least_deciding<'a>(
             least,
             j,
         );
-        j = next_in(low, high, j + 1, n);
+        rest = without_first(rest.low, rest.high);
+        j = first_in(rest.low, rest.high, n);
     }
     least
 }

@@ -1,4 +1,4 @@
-// One message worked out from the notes of the places before it, whether it is held, just delivered, or a reply that is being formed.
+// One held message worked out from the notes of the places before it.
 use crate::Worked;
 use crate::index::walks_for;
 use base::value;
@@ -37,7 +37,7 @@ fn form_of(offered: bool) -> u8
     if offered { 1 } else { 2 }
 }
 
-// Its own place is left out of those that it reaches: a new message has none.
+// Its own place is left out of those that it reaches.
 pub fn step<'a>(
     counts: &'a [u8],
     masks: &'a [Mask],

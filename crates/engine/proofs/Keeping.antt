@@ -16,7 +16,7 @@ use Rattle.graph.specs.Held.{viewOf}
 use Rattle.protocol.specs.Table.{Table, Held}
 use Rattle.protocol.proofs.Growth.{length-tabulate}
 use Rattle.scan.specs.PlaceSets.{inSet}
-use Rattle.scan.specs.Arrays.{Named, Lowest, IdsIndexed, idIn}
+use Rattle.scan.specs.Arrays.{Named, Lowest, idKeys, IdsIndexed, idIn}
 use Rattle.derive.specs.declared.Notes.{Notes}
 use Rattle.derive.specs.Notes.{Known, Marks, Filed, signerKey, linkKey, kindKey}
 use Rattle.derive.specs.Records.{tableIn, Fit}
@@ -51,7 +51,7 @@ module _ (r s : Round) (keeps : Keeps r s) where
   ids-kept : (low high : List ℕ) → IdsIndexed (r .ids) (r .held) low high → IdsIndexed (s .ids) (r .held) low high
   ids-kept low high h j l =
       let e : getD (s .ids) (32 * j) 0 ≡ getD (r .ids) (32 * j) 0 = id-first (s .ids) (32 * j) ∙ ap (λ (i : List ℕ). getD i 0 0) (keeps .ids j l) ∙ sym (id-first (r .ids) (32 * j)) in
-      subst (λ (k : ℕ). T (inSet (getD low (k % 128) 0) (getD high (k % 128) 0) j)) (sym e) (h j l)
+      subst (λ (k : ℕ). T (inSet (getD low (k % idKeys) 0) (getD high (k % idKeys) 0) j)) (sym e) (h j l)
 
   marks-kept : (x : Notes)
       → Marks (r .held) (r .kinds) (r .signers) (x .names) (r .previous) (x .forklow) (x .forkhigh) (x .tops) (x .forms) (x .keylow) (x .keyhigh) (x .forked .low) (x .forked .high)

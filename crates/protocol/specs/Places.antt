@@ -5,7 +5,7 @@ use Prim.Native.Nat.{ℕ}
 use Rattle.graph.specs.LearnerGraph.{LearnerGraph}
 use Rattle.protocol.specs.Message.{is1b, is2a, ballot, value, caught}
 use Rattle.protocol.specs.Learners.{con, buried, fresh, lrns}
-use Rattle.protocol.specs.WellFormed.{chained, formed1b, formed2a}
+use Rattle.protocol.specs.WellFormed.{formed1b, formed2a}
 use Rattle.protocol.specs.Report.{decides, Verdict, report}
 use Rattle.protocol.specs.Table.{Table, tree, messages}
 
@@ -25,9 +25,6 @@ module _ (t : Table) where
   -- Caught is read from Tran of the place, not from all that is held.
   abbrev pub caughtAt : ℕ → ℕ → Bool
   caughtAt i p = caught (tree t i) p
-
-  abbrev pub chainedAt : ℕ → Bool
-  chainedAt i = chained (tree t i)
 
   abbrev pub formed1bAt : ℕ → Bool
   formed1bAt i = formed1b (tree t i)

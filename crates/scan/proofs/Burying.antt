@@ -13,8 +13,8 @@ use Rattle.base.specs.Tests.{pick, any, below}
 use Rattle.base.proofs.Tests.{same-test, and-in, and-l, and-r, or-l, or-r, or-out, neqb→ne, ne→neqb, any-in, any-out, below-in, below-out}
 use Rattle.base.specs.Ballots.{valueOf}
 use Rattle.scan.specs.declared.Peaks.{Peaks}
-use Rattle.scan.specs.PlaceSets.{inSet}
 use Rattle.scan.specs.Arrays.{Covers, voteBallot, raised, peaksOf, isBuried, isOpposed, isRival, isBarred}
+use Rattle.scan.proofs.Walks.{Passed}
 use Rattle.scan.proofs.Loops.{any-none, not-covered}
 
 -- what the peaks of f 0, .., f (n - 1) are
@@ -119,7 +119,7 @@ peaks-skip f j (suc r) l h = step (λ (m : j ≤ r). peaks-skip f j r m (λ q k 
 
 -- nor does going on to the next of the places that cover the votes
 pub peaks-next : (vote : ℕ → Bool) (top : ℕ → ℕ) (n low high j r : ℕ) → Covers n vote low high
-    → (j ≤ r) × ((r ≤ n) × ((q : ℕ) → j ≤ q → q < r → inSet low high q ≡ false)) → peaksOf (λ q. pick (vote q) (top q) 0) j ≡ peaksOf (λ q. pick (vote q) (top q) 0) r
+    → Passed n low high j r → peaksOf (λ q. pick (vote q) (top q) 0) j ≡ peaksOf (λ q. pick (vote q) (top q) 0) r
 peaks-next vote top n low high j r cover (l, (u, none)) =
     peaks-skip (λ q. pick (vote q) (top q) 0) j r l (λ q a b. ap (λ (t : Bool). pick t (top q) 0) (not-covered n vote low high q cover (omega arith) (none q a b)))
 

@@ -13,6 +13,7 @@ use Rattle.base.specs.Tests.{any, below}
 use Rattle.base.proofs.Tests.{same-test, not-true, and-l, and-r, and-in, any-in, any-out, below-in, below-out}
 use Rattle.scan.specs.PlaceSets.{inSet}
 use Rattle.scan.specs.Arrays.{Covers, highest}
+use Rattle.scan.proofs.Walks.{Passed}
 
 -- ---- over the numbers below a bound
 pub any-suc : (f : ℕ → Bool) (i : ℕ) → any f (below (i + 1)) ≡ (f i || any f (below i))
@@ -48,7 +49,7 @@ not-covered n f low high q cover l e = not-true (f q) (not-T (f q) (λ t. subst 
 
 -- ---- from one member of a set to the next: a test that only places of the covered test pass
 pub any-next : (n : ℕ) (f g : ℕ → Bool) (low high j r : ℕ) → Covers n f low high → ((q : ℕ) → T (g q) → T (f q))
-    → (j ≤ r) × ((r ≤ n) × ((q : ℕ) → j ≤ q → q < r → inSet low high q ≡ false)) → any g (below j) ≡ any g (below r)
+    → Passed n low high j r → any g (below j) ≡ any g (below r)
 any-next n f g low high j r cover part (l, (u, none)) =
     sym (any-skip g j r l (λ q a b. not-covered n g low high q (λ i d t. cover i d (part i t)) (omega arith) (none q a b)))
 

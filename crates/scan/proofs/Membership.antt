@@ -2,19 +2,17 @@
 use mathlib.Core.Path.{_≡_, refl, sym, ap, ap₂, subst, _∙_}
 use mathlib.Core.Logic.{_⊎_, inl, inr}
 use mathlib.Core.Bool.{Bool, true, false, not, _&&_, _||_}
-use Prim.Native.Nat.{ℕ, zero, suc, _+_, _-_, _*_, _/_, _%_, _^_, _≤_, _<_}
-use native.Mathlib.Nat.{lt-of-le-of-lt, div-one}
+use Prim.Native.Nat.{ℕ, _+_, _-_, _*_, _/_, _%_, _^_, _≤_, _<_}
+use native.Mathlib.Nat.{lt-of-le-of-lt}
 use native.Mathlib.Decide.{decLt}
 use native.Mathlib.Omega.{arith}
 use borrow.Author.Tests.{lt-ltb, le-ltb, ne-eqb, ltb-false}
 use lib.Bits.{bitAnd, bitOr, and-mask, and-le-l}
-use lib.Pow.{shr-shr}
-use lib.Count.{trailingZeros, under}
 use lib.Dec.{T, eqb, ltb, eqb→eq, not-T}
 use Rattle.base.specs.Tests.{pick, any, below}
 use Rattle.base.specs.Sets.{has}
 use Rattle.base.proofs.Tests.{same-test, not-true, eq→eqb, neqb→ne, or-l, or-r, or-out, any-in, any-out, below-in}
-use Rattle.base.proofs.Bits.{bit, bit-suc, one-shl, some-bit}
+use Rattle.base.proofs.Bits.{one-shl, some-bit}
 use Rattle.base.proofs.Sets.{has-or, has-and, has-one, has-below}
 use Rattle.scan.specs.PlaceSets.{inSet, meets}
 
@@ -109,41 +107,6 @@ in-and a b c d q = ap₂ (pick (ltb q 64)) (has-and a c q) (has-and b d (q - 64)
     both-ways : (t u v w x : Bool) → pick t (u && w) (v && x) ≡ (pick t u v && pick t w x)
     both-ways true u v w x = refl
     both-ways false u v w x = refl
-
--- ---- the bits below the lowest one that is set
-none-trailing : (k x i : ℕ) → i < trailingZeros k x → bit x i ≡ 0
-unfolding trailingZeros
-none-trailing zero x i h = absurd (omega arith)
-none-trailing (suc k) x i h = go (x % 2) refl i (none-trailing k (x / 2)) h
-  where
-    go : (d : ℕ) → x % 2 ≡ d → (i : ℕ) → ((i : ℕ) → i < trailingZeros k (x / 2) → bit (x / 2) i ≡ 0) → i < under d (trailingZeros k (x / 2)) → bit x i ≡ 0
-    go zero e zero rest l = let z : x / 1 % 2 ≡ 0 = omega arith in z
-    go zero e (suc i) rest l = bit-suc x i ∙ rest i (omega arith)
-    go (suc d) e i rest l = absurd (omega arith)
-
--- `j + trailing_zeros(x >> j)`: none from j on is in the mask below it
-pub none-from : (x j q : ℕ) → j ≤ q → q < j + trailingZeros 64 (x / 2 ^ j) → has x q ≡ false
-unfolding has
-none-from x j q l h =
-    let e : j + (q - j) ≡ q = omega arith in
-    let z : bit x q ≡ 0 =
-    ap (λ (y : ℕ). bit x y) (sym e) ∙ ap (λ (y : ℕ). y % 2) (sym (shr-shr x j (q - j))) ∙ none-trailing 64 (x / 2 ^ j) (q - j) (omega arith)
-    in
-    ap (λ (y : ℕ). eqb y 1) z
-
--- the same of a set: from a place of the high word, and from one of the low word
-pub none-high : (low high j k q : ℕ) → 64 ≤ j → j ≤ q → q < k → k ≤ j + trailingZeros 64 (high / 2 ^ (j - 64)) → inSet low high q ≡ false
-none-high low high j k q g l h u = in-high low high q (omega arith) ∙ none-from high (j - 64) (q - 64) (omega arith) (omega arith)
-
-pub none-low : (low high j k q : ℕ) → j ≤ q → q < k → k ≤ 64 → k ≤ j + trailingZeros 64 (low / 2 ^ j) → inSet low high q ≡ false
-none-low low high j k q l h s u = in-low low high q (omega arith) ∙ none-from low j q l (omega arith)
-
-pub none-past : (low high j k q : ℕ) → j ≤ q → q < k → 64 ≤ j + trailingZeros 64 (low / 2 ^ j) → k ≤ 64 + trailingZeros 64 high → inSet low high q ≡ false
-none-past low high j k q l h s u = step (decLt q 64)
-  where
-    step : Dec (q < 64) → inSet low high q ≡ false
-    step (yes d) = none-low low high j 64 q l d (omega arith) s
-    step (no d) = none-high low high 64 k q (omega arith) (omega arith) h (subst (λ (x : ℕ). k ≤ 64 + trailingZeros 64 x) (sym (div-one high)) u)
 
 -- ---- two words that have a bit in common
 common : (x y : ℕ) → x < 2 ^ 64 → T (not (eqb (bitAnd x y) 0)) → (i : ℕ) × (i < 64) × T (has x i && has y i)

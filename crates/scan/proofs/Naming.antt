@@ -2,7 +2,7 @@
 use mathlib.Core.Path.{_≡_, sym, ap, ap₂, subst, _∙_}
 use mathlib.Core.Bool.{Bool, true, false, _&&_, _||_}
 use mathlib.Core.List.{List}
-use Prim.Native.Nat.{ℕ, _+_, _-_, _*_, _≤_, _<_}
+use Prim.Native.Nat.{ℕ, _+_, _-_, _*_, _<_}
 use native.Mathlib.Decide.{ℕ-discrete, decLt}
 use native.Mathlib.Omega.{arith}
 use lib.Dec.{T, eqb, eqb-refl}
@@ -11,6 +11,7 @@ use lib.Seq.{getD-set-same, getD-set-other, getD-take, getD-drop}
 use Rattle.base.proofs.Tests.{or-l, or-r}
 use Rattle.scan.specs.PlaceSets.{inSet}
 use Rattle.scan.specs.Arrays.{idIn, Lowest, Named, Indexed, Grown, idKey, IdsIndexed}
+use Rattle.scan.proofs.Walks.{Passed}
 use Rattle.scan.proofs.Loops.{each-more}
 
 -- the part of the ids that the code lends
@@ -67,7 +68,7 @@ key-of ids id k e =
     omega arith
 
 pub passed : (ids id : List ℕ) (n m : ℕ) (low high : List ℕ) (j r : ℕ) → IdsIndexed ids n low high → m ≡ idKey id 0
-    → (j ≤ r) × ((r ≤ n) × ((q : ℕ) → j ≤ q → q < r → inSet (getD low m 0) (getD high m 0) q ≡ false))
+    → Passed n (getD low m 0) (getD high m 0) j r
     → ((k : ℕ) → k < j → idIn ids k ≡ id → ⊥) → (k : ℕ) → k < r → idIn ids k ≡ id → ⊥
 passed ids id n m low high j r index e (l, (u, none)) old k h same = step (decLt k j)
   where

@@ -114,9 +114,13 @@ Indexed n key low high = (j : ℕ) → j < n → T (inSet (getD low (key j) 0) (
 abbrev pub Grown : List ℕ → List ℕ → List ℕ → List ℕ → Type 0
 Grown low high low′ high′ = (i q : ℕ) → q < 128 → T (inSet (getD low i 0) (getD high i 0) q) → T (inSet (getD low′ i 0) (getD high′ i 0) q)
 
--- the key of an id is its first byte, without the highest bit
+-- how many keys ids have
+abbrev pub idKeys : ℕ
+idKeys = 32
+
+-- the key of an id: the low bits of its first byte
 abbrev pub idKey : List ℕ → ℕ → ℕ
-idKey ids at = getD ids at 0 % 128
+idKey ids at = getD ids at 0 % idKeys
 
 abbrev pub IdsIndexed : List ℕ → ℕ → List ℕ → List ℕ → Type 0
 IdsIndexed ids n low high = Indexed n (λ j. idKey ids (32 * j)) low high

@@ -1,9 +1,10 @@
 // What lies beneath a message, from what lies beneath the places that it refers to.
 use crate::Places;
 use crate::Under;
+use crate::sets::first_in;
 use crate::sets::has_place;
 use crate::sets::larger;
-use crate::sets::next_in;
+use crate::sets::without_first;
 use base::size;
 ghost use mathlib.Core.Path.{_≡_};
 ghost use mathlib.Core.Bool.{_&&_};
@@ -50,10 +51,12 @@ pub fn is_grounded(kinds: &[u8], n: usize, low: u64, high: u64, walk: Places) ->
     ensures { λ r. ⌜ r ≡ any (λ j. inSet low high j && isOffer (now (kinds .entry)) j) (below n) ⌝ }
 {
     let mut found = false;
-    let mut j: usize = next_in(walk.low, walk.high, 0, n);
+    let mut rest = walk;
+    let mut j: usize = first_in(rest.low, rest.high, n);
     while j < n {
         found = (has_place(low, high, j) & (kinds[j] == 1)) | found;
-        j = next_in(walk.low, walk.high, j + 1, n);
+        rest = without_first(rest.low, rest.high);
+        j = first_in(rest.low, rest.high, n);
     }
     found
 }
@@ -92,10 +95,12 @@ pub fn is_crowded<'a>(
     ensures { λ r. ⌜ r ≡ any (isCrowding (now (kinds .entry)) (now (names .entry)) (now (tops .entry)) low high name ballot) (below n) ⌝ }
 {
     let mut found = false;
-    let mut j: usize = next_in(walk.low, walk.high, 0, n);
+    let mut rest = walk;
+    let mut j: usize = first_in(rest.low, rest.high, n);
     while j < n {
         found = is_crowding(kinds, names, tops, low, high, name, ballot, j) | found;
-        j = next_in(walk.low, walk.high, j + 1, n);
+        rest = without_first(rest.low, rest.high);
+        j = first_in(rest.low, rest.high, n);
     }
     found
 }

@@ -1,10 +1,11 @@
 // Forks: two acceptor messages of one signer with the same previous message or both with none; and the acceptors caught by them.
 use crate::Places;
+use crate::sets::first_in;
 use crate::sets::has_place;
 use crate::sets::meet;
-use crate::sets::next_in;
 use crate::sets::with_acceptor;
 use crate::sets::with_place;
+use crate::sets::without_first;
 use base::size;
 ghost use mathlib.Core.Path.{_≡_};
 ghost use mathlib.Core.Bool.{_&&_};
@@ -52,11 +53,13 @@ pub fn forking<'a>(
         ≡ any (λ j. isFork (now (kinds .entry)) (now (signers .entry)) (now (names .entry)) (now (previous .entry)) signer name link j && eqb j q) (below n)) ⌝ }
 {
     let mut s = Places { low: 0, high: 0 };
-    let mut j: usize = next_in(walk.low, walk.high, 0, n);
+    let mut rest = walk;
+    let mut j: usize = first_in(rest.low, rest.high, n);
     while j < n {
         let on = is_fork(kinds, signers, names, previous, signer, name, link, j);
         s = with_place(s.low, s.high, j, on);
-        j = next_in(walk.low, walk.high, j + 1, n);
+        rest = without_first(rest.low, rest.high);
+        j = first_in(rest.low, rest.high, n);
     }
     s
 }
@@ -77,11 +80,13 @@ pub fn caught_in<'a>(
         ≡ any (λ j. isCaught (now («fork_low» .entry)) (now («fork_high» .entry)) low high j && eqb (getD (now (signers .entry)) j 0) p) (below n)) ⌝ }
 {
     let mut mask: u32 = 0;
-    let mut j: usize = next_in(walk.low, walk.high, 0, n);
+    let mut rest = walk;
+    let mut j: usize = first_in(rest.low, rest.high, n);
     while j < n {
         let on = has_place(low, high, j) & meet(low, high, fork_low[j], fork_high[j]);
         mask = with_acceptor(mask, signers[j], on);
-        j = next_in(walk.low, walk.high, j + 1, n);
+        rest = without_first(rest.low, rest.high);
+        j = first_in(rest.low, rest.high, n);
     }
     mask
 }

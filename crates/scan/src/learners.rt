@@ -1,11 +1,12 @@
 // Buried, fresh and the learners of a 2a.
 use crate::Peaks;
 use crate::Places;
+use crate::sets::first_in;
 use crate::sets::has_learner;
 use crate::sets::has_place;
-use crate::sets::next_in;
 use crate::sets::with_acceptor;
 use crate::sets::with_learner;
+use crate::sets::without_first;
 use base::value;
 use graph::Mask;
 use graph::lists::is_quorum;
@@ -86,11 +87,13 @@ fn peaks<'a>(
     ensures { λ r. ⌜ r ≡ peaksOf (voteBallot (now (forms .entry)) (now (learners .entry)) (now (tops .entry)) low high b) n ⌝ }
 {
     let mut p = Peaks { best: 0, other: 0 };
-    let mut j: usize = next_in(walk.low, walk.high, 0, n);
+    let mut rest = walk;
+    let mut j: usize = first_in(rest.low, rest.high, n);
     while j < n {
         let x = vote_ballot(forms, learners, tops, low, high, b, j);
         p = raise(p, x);
-        j = next_in(walk.low, walk.high, j + 1, n);
+        rest = without_first(rest.low, rest.high);
+        j = first_in(rest.low, rest.high, n);
     }
     p
 }
@@ -148,7 +151,8 @@ fn is_barred<'a>(
     ensures { λ r. ⌜ r ≡ any (isOpposed (now (forms .entry)) (now (learners .entry)) (now (signers .entry)) (now (tops .entry)) low high b signer v best other) (below n) ⌝ }
 {
     let mut found = false;
-    let mut j: usize = next_in(walk.low, walk.high, 0, n);
+    let mut rest = walk;
+    let mut j: usize = first_in(rest.low, rest.high, n);
     while j < n {
         found = is_opposed(
             forms,
@@ -165,7 +169,8 @@ fn is_barred<'a>(
             j,
         )
             | found;
-        j = next_in(walk.low, walk.high, j + 1, n);
+        rest = without_first(rest.low, rest.high);
+        j = first_in(rest.low, rest.high, n);
     }
     found
 }
@@ -213,10 +218,12 @@ fn rivals<'a>(
     ensures { λ r. ⌜ ((b : ℕ) → has r b ≡ any (isRival (now (forms .entry)) (now (learners .entry)) (now (signers .entry)) (now (tops .entry)) low high signer v b) (below n)) ⌝ }
 {
     let mut mask: u8 = 0;
-    let mut j: usize = next_in(walk.low, walk.high, 0, n);
+    let mut rest = walk;
+    let mut j: usize = first_in(rest.low, rest.high, n);
     while j < n {
         mask = rivals_at(forms, learners, signers, tops, low, high, signer, v, j) | mask;
-        j = next_in(walk.low, walk.high, j + 1, n);
+        rest = without_first(rest.low, rest.high);
+        j = first_in(rest.low, rest.high, n);
     }
     mask
 }
@@ -265,7 +272,7 @@ fn bars<'a>(
 }
 
 // The learners that are barred: for each of them there is an opposed place. `votes` has the places of all votes, `rival_votes` of those that are of this
-// signer and of another value than v.
+// signer and of another value than v. Where l is 0, as for a 2a, no place is gone through.
 pub fn opposing<'a>(
     forms: &'a [u8],
     learners: &'a [u8],
@@ -286,6 +293,9 @@ pub fn opposing<'a>(
     ensures { λ r. ⌜ ((q : ℕ) → has r q
         ≡ any (λ b. isBarred (now (forms .entry)) (now (learners .entry)) (now (signers .entry)) (now (tops .entry)) n low high signer v b && eqb b q) (below l)) ⌝ }
 {
+    if l == 0 {
+        return 0;
+    }
     let among = rivals(
         forms,
         learners,
@@ -457,16 +467,18 @@ fn backers<'a>(
         ≡ backedBy (now (forms .entry)) (now (fresh .entry)) (now (tops .entry)) (now (signers .entry)) n low high ballot a p) ⌝ }
 {
     let mut sets = [0u32; 8];
-    let mut j: usize = next_in(walk.low, walk.high, 0, n);
+    let mut rest = walk;
+    let mut j: usize = first_in(rest.low, rest.high, n);
     while j < n {
         let to = fresh_at(forms, fresh, tops, low, high, ballot, j);
         put_backer(&mut sets, k, to, signers[j]);
-        j = next_in(walk.low, walk.high, j + 1, n);
+        rest = without_first(rest.low, rest.high);
+        j = first_in(rest.low, rest.high, n);
     }
     sets
 }
 
-// The first k learners for which they are a quorum: those of a 2a.
+// The first k learners for which they are a quorum: those of a 2a. Where k is 0, no place is gone through.
 pub fn learners_for<'a>(
     counts: &'a [u8],
     masks: &'a [Mask],
@@ -487,6 +499,9 @@ pub fn learners_for<'a>(
     ensures { λ r. ⌜ ((m q : ℕ) → has r q ≡ any (λ a. isQuorum (heldGraph acceptors m (now (counts .entry)) (now (masks .entry))) a
         (backedBy (now (forms .entry)) (now (fresh .entry)) (now (tops .entry)) (now (signers .entry)) n low high ballot a) && eqb a q) (below k)) ⌝ }
 {
+    if k == 0 {
+        return 0;
+    }
     let sets = backers(forms, fresh, tops, signers, k, n, low, high, ballot, walk);
     let mut mask: u8 = 0;
     let mut a: usize = 0;

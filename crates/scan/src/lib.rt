@@ -27,9 +27,12 @@ pub struct Peaks {
     pub other: u64,
 }
 
+// How many keys ids have.
+pub const ID_KEYS: usize = 32;
+
 // The names of the places, with 255 for none, and the places by the key of their ids.
 pub struct NameIndex {
     pub names: [u8; 256],
-    pub key_low: [u64; 128],
-    pub key_high: [u64; 128],
+    pub key_low: [u64; ID_KEYS],
+    pub key_high: [u64; ID_KEYS],
 }

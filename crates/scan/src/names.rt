@@ -1,22 +1,26 @@
 // Names: messages are told apart by id, and an id held twice names the lower place. So the name of a place is the lowest one with its id, and
 // two messages are the same exactly if their names are. A previous message is compared by its name too; 255 is the name of none.
 // Ids are found by a key, so that few places are compared.
+use crate::ID_KEYS;
 use crate::NameIndex;
-use crate::sets::next_in;
+use crate::Places;
+use crate::sets::first_in;
 use crate::sets::put_place;
+use crate::sets::without_first;
 use base::size;
 ghost use mathlib.Core.Path.{_≡_};
 ghost use Prim.Native.Nat.{_+_, _*_, _≤_, _<_};
 ghost use lib.ListN.{length};
-ghost use Rattle.scan.specs.Arrays.{Lowest, Named, idKey, IdsIndexed};
+ghost use Rattle.scan.specs.Arrays.{Lowest, Named, idKeys, idKey, IdsIndexed};
 
+// The key of the id that begins at a byte: the low bits of its first byte; 0 where the bytes end before it.
 pub fn id_key(ids: &[u8], at: usize) -> usize
     ensures { λ r. ⌜ r ≡ idKey (now (ids .entry)) at ⌝ }
 {
     if ids.len() <= at {
         return 0;
     }
-    size(ids[at]) & 127
+    size(ids[at]) & 31
 }
 
 // The lowest of the first n places with this id, or n.
@@ -27,20 +31,22 @@ pub fn name_of<'a>(
     key_low: &'a [u64],
     key_high: &'a [u64],
 ) -> usize
-    requires { ⌜ (n ≤ 128) × ((length (now ids) ≡ 4096) × ((length (now «key_low») ≡ 128) × ((length (now «key_high») ≡ 128)
+    requires { ⌜ (n ≤ 128) × ((length (now ids) ≡ 4096) × ((length (now «key_low») ≡ idKeys) × ((length (now «key_high») ≡ idKeys)
         × IdsIndexed (now ids) n (now «key_low») (now «key_high»)))) ⌝ }
     ensures { λ r. ⌜ Lowest (now (ids .entry)) n (now (id .entry)) r ⌝ }
 {
     let k = id_key(id, 0);
     let low = key_low[k];
     let high = key_high[k];
-    let mut i = next_in(low, high, 0, n);
+    let mut rest = Places { low, high };
+    let mut i = first_in(rest.low, rest.high, n);
     while i < n {
         let at = 32 * i;
         if check::same(&ids[at..at + 32], id) {
             return i;
         }
-        i = next_in(low, high, i + 1, n);
+        rest = without_first(rest.low, rest.high);
+        i = first_in(rest.low, rest.high, n);
     }
     n
 }
@@ -52,8 +58,8 @@ pub fn names_of(ids: &[u8], n: usize) -> NameIndex
 {
     let mut names = [0u8; 256];
     names[255] = 255;
-    let mut key_low = [0u64; 128];
-    let mut key_high = [0u64; 128];
+    let mut key_low = [0u64; ID_KEYS];
+    let mut key_high = [0u64; ID_KEYS];
     let mut i: usize = 0;
     while i < n {
         let at = 32 * i;

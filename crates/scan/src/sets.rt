@@ -6,7 +6,7 @@ ghost use Prim.Native.Nat.{ℕ, _≤_, _<_, min, max};
 ghost use lib.Dec.{T, eqb};
 ghost use lib.ListN.{length, getD};
 ghost use Rattle.base.specs.Sets.{has};
-ghost use Rattle.scan.specs.PlaceSets.{inSet, meets};
+ghost use Rattle.scan.specs.PlaceSets.{inSet, meets, First, Dropped};
 ghost use Rattle.scan.specs.Arrays.{Grown};
 
 pub fn has_place(low: u64, high: u64, j: usize) -> bool
@@ -75,22 +75,34 @@ fn smaller(x: usize, y: usize) -> usize
     if x < y { x } else { y }
 }
 
-// The first place of the set from j on, or n: none is in the set that it passes over.
-pub fn next_in(low: u64, high: u64, j: usize, n: usize) -> usize
-    requires { ⌜ (j ≤ n) × (n ≤ 128) ⌝ }
-    ensures { λ r. ⌜ (j ≤ r) × ((r ≤ n) × ((q : ℕ) → j ≤ q → q < r → inSet low high q ≡ false)) ⌝ }
+// The first place of the set, or n where that is lower: a walk goes on from it to what `without_first` leaves.
+pub fn first_in(low: u64, high: u64, n: usize) -> usize
+    requires { ⌜ n ≤ 128 ⌝ }
+    ensures { λ r. ⌜ First n low high r ⌝ }
 {
-    if 128 <= j {
-        return n;
+    if low != 0 {
+        return smaller(u64::trailing_zeros(low) as usize, n);
     }
-    if 64 <= j {
-        return smaller(j + u64::trailing_zeros(high >> (j - 64)) as usize, n);
+    smaller(u64::trailing_zeros(high) as usize + 64, n)
+}
+
+// The set without its first place.
+pub fn without_first(low: u64, high: u64) -> Places
+    ensures { λ r. ⌜ Dropped low high (r .low) (r .high) ⌝ }
+{
+    if low != 0 {
+        return Places {
+            low: low & (low - 1),
+            high,
+        };
     }
-    let k = j + u64::trailing_zeros(low >> j) as usize;
-    if k < 64 {
-        return smaller(k, n);
+    if high != 0 {
+        return Places {
+            low,
+            high: high & (high - 1),
+        };
     }
-    smaller(64 + u64::trailing_zeros(high) as usize, n)
+    Places { low, high }
 }
 
 // The mask with acceptor p, where `on`. A signer that no mask can hold is in none.

@@ -21,7 +21,7 @@ within-requires : tie.Need-within-requires
 within-requires c κs = search needs
 
 returns : tie.Need-returns
-returns c = let a = c .before .before .before .before .before .before .args in λ q h x y. both (inSet (getD (a .key-low .now) (226) 0) (getD (a .key-high .now) (226) 0) q) (inSet (getD (a .key-low .now) (c .before .before .before .ballot-key .result) 0) (getD (a .key-high .now) (c .before .before .before .ballot-key .result) 0) q) (c .within .ensures q h) x (subst (λ (k : ℕ). Filed (a .key-low .now) (a .key-high .now) k q) (sym (c .before .before .before .ballot-key .ensures)) y)
+returns c = let a = c .before .before .before .before .before .before .args in λ q h x y. both (inSet (getD (a .key-low .now) (66) 0) (getD (a .key-high .now) (66) 0) q) (inSet (getD (a .key-low .now) (c .before .before .before .ballot-key .result) 0) (getD (a .key-high .now) (c .before .before .before .ballot-key .result) 0) q) (c .within .ensures q h) x (subst (λ (k : ℕ). Filed (a .key-low .now) (a .key-high .now) k q) (sym (c .before .before .before .ballot-key .ensures)) y)
 
 pub votes-of-spec : {M : Type 1} → statement M
 votes-of-spec =

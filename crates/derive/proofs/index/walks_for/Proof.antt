@@ -1,12 +1,10 @@
 use mathlib.Core.Path.{sym, subst}
 use Prim.Native.Nat.{ℕ}
-use lib.Dec.{T}
 use lib.ListN.{getD}
 use Rattle.scan.specs.PlaceSets.{inSet}
 use Rattle.derive.specs.Notes.{Filed}
 use Rattle.derive.proofs.Walking.{both}
 use borrow.Author.Needs.{needs}
-use native.Mathlib.Omega.{arith}
 use Rattle.derive.proofs.index.walks_for.Statement.{statement}
 use Rattle.derive.proofs.index.walks_for.Tie as tie
 
@@ -40,22 +38,16 @@ within-requires-2 c κs = search needs
 within-requires-3 : tie.Need-within-requires-3
 within-requires-3 c κs = search needs
 
-within-requires-4 : tie.Need-within-requires-4
-within-requires-4 c κs = search needs
-
-ballot-key-requires : tie.Need-ballot-key-requires
-ballot-key-requires c κs = search needs
-
-within-requires-5 : tie.Need-within-requires-5
-within-requires-5 c κs = let e = c .ballot-key .ensures in let g = c .before .before .before .before .before .before .before .before .before .before .before .before .pre .0 in let h = c .before .before .before .before .before .before .before .before .before .before .before .before .pre .1 in (omega (arith, e, g), omega (arith, e, h))
+backers-of-requires : tie.Need-backers-of-requires
+backers-of-requires c κs = search needs
 
 returns : tie.Need-returns
-returns c = let a = c .before .before .before .before .before .before .before .before .before .before .before .before .before .args in let s = c .before .before .before .before .before .before .before .before .before .before .signer-key in record {
-  forking = λ q h x y. both (inSet (getD (a .key-low .now) (s .result) 0) (getD (a .key-high .now) (s .result) 0) q) (inSet (getD (a .key-low .now) (c .before .before .before .before .before .before .before .before .before .link-key .result) 0) (getD (a .key-high .now) (c .before .before .before .before .before .before .before .before .before .link-key .result) 0) q) (c .before .before .before .before .before .before .within .ensures q h) (subst (λ (k : ℕ). Filed (a .key-low .now) (a .key-high .now) k q) (sym (s .ensures)) x) (subst (λ (k : ℕ). Filed (a .key-low .now) (a .key-high .now) k q) (sym (c .before .before .before .before .before .before .before .before .before .link-key .ensures)) y);
-  catching = λ q h x y. both (inSet (a .low) (a .high) q) (inSet (a .forked .low) (a .forked .high) q) (c .before .before .before .before .before .common .ensures q h) x y;
-  voting = λ q h x y. both (inSet (a .low) (a .high) q) (inSet (getD (a .key-low .now) (226) 0) (getD (a .key-high .now) (226) 0) q) (c .before .before .before .before .within2 .ensures q h) x y;
-  rivalling = λ q h x y z. both (inSet (c .before .before .before .before .within2 .result .low) (c .before .before .before .before .within2 .result .high) q) (inSet (getD (a .key-low .now) (s .result) 0) (getD (a .key-high .now) (s .result) 0) q) (c .before .before .before .within3 .ensures q h) (both (inSet (a .low) (a .high) q) (inSet (getD (a .key-low .now) (226) 0) (getD (a .key-high .now) (226) 0) q) (c .before .before .before .before .within2 .ensures q h) x y) (subst (λ (k : ℕ). Filed (a .key-low .now) (a .key-high .now) k q) (sym (s .ensures)) z);
-  backing = λ q h x y z. both (inSet (c .before .before .within4 .result .low) (c .before .before .within4 .result .high) q) (inSet (getD (a .key-low .now) (c .before .ballot-key .result) 0) (getD (a .key-high .now) (c .before .ballot-key .result) 0) q) (c .within5 .ensures q h) (both (inSet (a .low) (a .high) q) (inSet (getD (a .key-low .now) (225) 0) (getD (a .key-high .now) (225) 0) q) (c .before .before .within4 .ensures q h) x y) (subst (λ (k : ℕ). Filed (a .key-low .now) (a .key-high .now) k q) (sym (c .before .ballot-key .ensures)) z);
+returns c = let a = c .before .before .before .before .before .before .before .before .before .before .before .args in let s = c .before .before .before .before .before .before .before .before .signer-key in record {
+  forking = λ q h x y. both (inSet (getD (a .key-low .now) (s .result) 0) (getD (a .key-high .now) (s .result) 0) q) (inSet (getD (a .key-low .now) (c .before .before .before .before .before .before .before .link-key .result) 0) (getD (a .key-high .now) (c .before .before .before .before .before .before .before .link-key .result) 0) q) (c .before .before .before .before .within .ensures q h) (subst (λ (k : ℕ). Filed (a .key-low .now) (a .key-high .now) k q) (sym (s .ensures)) x) (subst (λ (k : ℕ). Filed (a .key-low .now) (a .key-high .now) k q) (sym (c .before .before .before .before .before .before .before .link-key .ensures)) y);
+  catching = λ q h x y. both (inSet (a .low) (a .high) q) (inSet (a .forked .low) (a .forked .high) q) (c .before .before .before .common .ensures q h) x y;
+  voting = λ q h x y. both (inSet (a .low) (a .high) q) (inSet (getD (a .key-low .now) (66) 0) (getD (a .key-high .now) (66) 0) q) (c .before .before .within2 .ensures q h) x y;
+  rivalling = λ q h x y z. both (inSet (c .before .before .within2 .result .low) (c .before .before .within2 .result .high) q) (inSet (getD (a .key-low .now) (s .result) 0) (getD (a .key-high .now) (s .result) 0) q) (c .before .within3 .ensures q h) (both (inSet (a .low) (a .high) q) (inSet (getD (a .key-low .now) (66) 0) (getD (a .key-high .now) (66) 0) q) (c .before .before .within2 .ensures q h) x y) (subst (λ (k : ℕ). Filed (a .key-low .now) (a .key-high .now) k q) (sym (s .ensures)) z);
+  backing = c .backers-of .ensures;
 }
 
 pub walks-for-spec : {M : Type 1} → statement M
@@ -72,7 +64,5 @@ walks-for-spec =
     common-requires
     within-requires-2
     within-requires-3
-    within-requires-4
-    ballot-key-requires
-    within-requires-5
+    backers-of-requires
     returns)

@@ -44,16 +44,16 @@ count-if-requires-2 : tie.Need-count-if-requires-2
 count-if-requires-2 c κs = search needs
 
 learners-for-requires : tie.Need-learners-for-requires
-learners-for-requires c κs = let a = c .before .before .before .before .before .before .before .before .before .before .before .before .before .before .before .before .before .before .before .before .before .before .before .before .before .before .before .before .before .before .before .before .before .before .args in let pre = c .before .before .before .before .before .before .before .before .before .before .before .before .before .before .before .before .before .before .before .before .before .before .before .before .before .before .before .before .before .before .before .before .before .before .pre in let p = pre .0 in let u = c .before .before .before .before .before .before .before .before .before .before .before .before .before .before .before .before .under .result in let w = c .before .before .before .before .before .before .before .before .before .before .before .before .before .before .before .walks-for in let few = p .learnersFit in let k = c .before .count-if2 .ensures .1 in (p .acceptorsFit, (p .sized, (omega (arith, few, k), (p .heldFit, (p .formsFit, (p .freshFit, (p .topsFit, (p .signersFit, covers-backers (a .n) (a .kinds .now) (a .signers .now) (a .names .now) (a .previous .now) (a .fork-low .now) (a .fork-high .now) (a .tops .now) (a .forms .now) (a .key-low .now) (a .key-high .now) (a .forked .low) (a .forked .high) (p .heldFit) (pre .1) (u .low) (u .high) (u .ballot) (a .signer) (a .link) (w .result) (w .ensures) (a .fresh .now)))))))))
+learners-for-requires c κs = let a = c .before .before .before .before .before .before .before .before .before .before .before .before .before .before .before .before .before .before .before .before .before .before .before .before .before .before .before .before .before .before .before .before .before .before .args in let pre = c .before .before .before .before .before .before .before .before .before .before .before .before .before .before .before .before .before .before .before .before .before .before .before .before .before .before .before .before .before .before .before .before .before .before .pre in let p = pre .0 in let u = c .before .before .before .before .before .before .before .before .before .before .before .before .before .before .before .before .under .result in let w = c .before .before .before .before .before .before .before .before .before .before .before .before .before .before .before .walks-for in let few = p .learnersFit in let k = c .before .count-if2 .ensures .1 in (p .acceptorsFit, (p .sized, (omega (arith, few, k), (p .heldFit, (p .formsFit, (p .freshFit, (p .topsFit, (p .signersFit, covers-backers (a .n) (a .kinds .now) (a .signers .now) (a .names .now) (a .previous .now) (a .fork-low .now) (a .fork-high .now) (a .tops .now) (a .forms .now) (a .key-low .now) (a .key-high .now) (a .forked .low) (a .forked .high) (p .heldFit) (pre .1) (u .low) (u .high) (u .ballot) (w .result .backers .low) (w .result .backers .high) (w .ensures .backing) (a .fresh .now)))))))))
 
 form-of-requires : tie.Need-form-of-requires
 form-of-requires c κs = search needs
 
 returns : tie.Need-returns
 returns c = let a = c .before .before .before .before .before .before .before .before .before .before .before .before .before .before .before .before .before .before .before .before .before .before .before .before .before .before .before .before .before .before .before .before .before .before .before .before .args in let p = c .before .before .before .before .before .before .before .before .before .before .before .before .before .before .before .before .before .before .before .before .before .before .before .before .before .before .before .before .before .before .before .before .before .before .before .before .pre .0 in let s = c .before .before .before .before .before .before .before .before .before .before .before .before .before .before .before .before .before .before .under .result in
-    λ t id prev e kn ca. told (heldGraph (a .acceptors) (a .l) (a .counts .now) (a .masks .now)) t (a .kinds .now) (a .signers .now) (a .names .now) (a .previous .now)
+    λ t id prev e kn ca. told (heldGraph (a .acceptors) (a .l) (a .counts .now) (a .masks .now)) t (a .kinds .now) (a .signers .now)
     (a .low .now) (a .high .now) (a .fork-low .now) (a .fork-high .now) (a .tops .now) (a .learners .now) (a .fresh .now) (a .forms .now) (a .places .now)
-    kn id (a .signer) prev (a .name) (a .link) (a .n) e (p .heldFit) ca (s .low) (s .high) (s .ballot) (s .offered) (c .before .before .before .before .before .before .before .before .before .before .before .before .before .before .before .before .before .before .under .ensures)
+    kn id (a .signer) prev (a .n) e (p .heldFit) (ca .earlier) (s .low) (s .high) (s .ballot) (s .offered) (c .before .before .before .before .before .before .before .before .before .before .before .before .before .before .before .before .before .before .under .ensures) (a .names .now) (a .previous .now) (a .name) (a .link) ca
     (c .before .before .before .before .before .before .before .before .before .before .before .before .before .before .before .forking .result .low) (c .before .before .before .before .before .before .before .before .before .before .before .before .before .before .before .forking .result .high) (c .before .before .before .before .before .before .before .before .before .before .before .before .before .caught-in .result) (c .before .before .before .before .before .before .before .before .before .before .before .with-acceptor .result) (c .before .before .before .before .before .before .opposing .result) (c .before .before .before .before .before .fresh-for .result)
     (c .before .learners-for .result) (c .before .before .before .before .before .before .before .before .before .before .count-if .result) (c .before .before .before .count-if2 .result) (c .before .before .before .before .before .before .before .value .result) (c .form-of .result)
     (p .acceptorsFit) (c .before .before .before .before .before .before .before .before .before .before .before .before .before .before .before .forking .ensures) (c .before .before .before .before .before .before .before .before .before .before .before .before .before .caught-in .ensures)

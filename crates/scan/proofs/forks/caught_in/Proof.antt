@@ -1,6 +1,6 @@
 use mathlib.Core.Path.{_≡_, ap₂, _∙_}
 use mathlib.Core.Bool.{_&&_}
-use Prim.Native.Nat.{ℕ, _+_, _≤_, _<_, _-_}
+use Prim.Native.Nat.{ℕ, _+_, _<_, _-_}
 use lib.ListN.{getD}
 use lib.Dec.{eqb}
 use Rattle.base.specs.Tests.{any, below}
@@ -9,22 +9,24 @@ use Rattle.base.proofs.Tests.{and-l}
 use Rattle.scan.proofs.Loops.{put-again, any-next, any-done}
 use Rattle.scan.proofs.Membership.{has-zero}
 use Rattle.scan.specs.Arrays.{isCaught}
+use Rattle.scan.proofs.Walks.{Left, walk-begun, walked-on}
 use borrow.Author.Needs.{needs}
+use native.Mathlib.Omega.{arith}
 use Rattle.scan.proofs.forks.caught_in.Statement.{statement}
 use Rattle.scan.proofs.forks.caught_in.Tie as tie
 
 abbrev Inv-loop : tie.InvT-loop
-Inv-loop signers fork-low fork-high n low high walk mask₀ j₀ mask j = (j ≤ n) × ((p : ℕ) → p < 32 → has mask p ≡ any (λ j. isCaught fork-low fork-high low high j && eqb (getD signers j 0) p) (below j))
+Inv-loop signers fork-low fork-high n low high mask₀ rest₀ j₀ mask rest j = Left n (rest₀ .low) (rest₀ .high) (rest .low) (rest .high) j × ((p : ℕ) → p < 32 → has mask p ≡ any (λ j. isCaught fork-low fork-high low high j && eqb (getD signers j 0) p) (below j))
 
 abbrev μ-loop : tie.MeasureT-loop
-μ-loop signers fork-low fork-high n low high walk mask₀ j₀ mask j = n - j
+μ-loop signers fork-low fork-high n low high mask₀ rest₀ j₀ mask rest j = n - j
 
-next-in-requires : tie.Need-next-in-requires Inv-loop μ-loop
-next-in-requires c κs = search needs
+first-in-requires : tie.Need-first-in-requires Inv-loop μ-loop
+first-in-requires c κs = search needs
 
 loop-holds : tie.Need-loop-holds Inv-loop μ-loop
 unfolding any below
-loop-holds c = let a = c .before .before .before .before .args in (c .next-in .ensures .1 .0, λ p h. has-zero p ∙ any-next (a .n) (isCaught (a .fork-low .now) (a .fork-high .now) (a .low) (a .high)) (λ j. isCaught (a .fork-low .now) (a .fork-high .now) (a .low) (a .high) j && eqb (getD (a .signers .now) j 0) p) (a .walk .low) (a .walk .high) 0 (c .next-in .result) (c .before .before .before .before .pre .1 .1 .1 .1) (λ i t. and-l (isCaught (a .fork-low .now) (a .fork-high .now) (a .low) (a .high) i) (eqb (getD (a .signers .now) i 0) p) t) (c .next-in .ensures))
+loop-holds c = let w = walk-begun (c .first-in .ensures) in let a = c .before .before .before .before .args in (w .1, λ p h. has-zero p ∙ any-next (a .n) (isCaught (a .fork-low .now) (a .fork-high .now) (a .low) (a .high)) (λ j. isCaught (a .fork-low .now) (a .fork-high .now) (a .low) (a .high) j && eqb (getD (a .signers .now) j 0) p) (a .walk .low) (a .walk .high) 0 (c .first-in .result) (c .before .before .before .before .pre .1 .1 .1 .1) (λ i t. and-l (isCaught (a .fork-low .now) (a .fork-high .now) (a .low) (a .high) i) (eqb (getD (a .signers .now) i 0) p) t) (w .0))
 
 has-place-requires : tie.Need-has-place-requires Inv-loop μ-loop
 has-place-requires c κs = search needs
@@ -50,20 +52,20 @@ shared-slice-read-with-acceptor c = search needs
 with-acceptor-requires : tie.Need-with-acceptor-requires Inv-loop μ-loop
 with-acceptor-requires c κs = search needs
 
-add-next-in : tie.Need-add-next-in Inv-loop μ-loop
-add-next-in c = search needs
+without-first-requires : tie.Need-without-first-requires Inv-loop μ-loop
+without-first-requires c κs = search needs
 
-next-in-requires-2 : tie.Need-next-in-requires-2 Inv-loop μ-loop
-next-in-requires-2 c κs = search needs
+first-in-requires-2 : tie.Need-first-in-requires-2 Inv-loop μ-loop
+first-in-requires-2 c κs = search needs
 
 loop-less : tie.Need-loop-less Inv-loop μ-loop
-loop-less c = search needs
+loop-less c = let l = c .before .before .before .before .before .before .before .before .before .loop in let w = walked-on (l .inv .0) (c .before .before .before .before .before .before .before .before .loop-test .taken) (c .before .without-first .ensures) (c .first-in2 .ensures) in omega arith
 
 loop-again : tie.Need-loop-again Inv-loop μ-loop
-loop-again c = let a = c .before .before .before .before .before .before .before .before .before .before .before .before .before .args in let l = c .before .before .before .before .before .before .before .before .loop in (c .next-in2 .ensures .1 .0, λ p h. put-again (isCaught (a .fork-low .now) (a .fork-high .now) (a .low) (a .high)) (λ j. getD (a .signers .now) j 0) (l .j) p _ _ _ (c .before .with-acceptor .ensures p h) (ap₂ _&&_ (c .before .before .before .before .before .before .has-place .ensures) (c .before .before .before .meet .ensures)) (l .inv .1 p h) ∙ any-next (a .n) (isCaught (a .fork-low .now) (a .fork-high .now) (a .low) (a .high)) (λ j. isCaught (a .fork-low .now) (a .fork-high .now) (a .low) (a .high) j && eqb (getD (a .signers .now) j 0) p) (a .walk .low) (a .walk .high) (l .j + 1) (c .next-in2 .result) (c .before .before .before .before .before .before .before .before .before .before .before .before .before .pre .1 .1 .1 .1) (λ i t. and-l (isCaught (a .fork-low .now) (a .fork-high .now) (a .low) (a .high) i) (eqb (getD (a .signers .now) i 0) p) t) (c .next-in2 .ensures))
+loop-again c = let a = c .before .before .before .before .before .before .before .before .before .before .before .before .before .before .args in let l = c .before .before .before .before .before .before .before .before .before .loop in let w = walked-on (l .inv .0) (c .before .before .before .before .before .before .before .before .loop-test .taken) (c .before .without-first .ensures) (c .first-in2 .ensures) in (w .1, λ p h. put-again (isCaught (a .fork-low .now) (a .fork-high .now) (a .low) (a .high)) (λ j. getD (a .signers .now) j 0) (l .j) p _ _ _ (c .before .before .with-acceptor .ensures p h) (ap₂ _&&_ (c .before .before .before .before .before .before .before .has-place .ensures) (c .before .before .before .before .meet .ensures)) (l .inv .1 p h) ∙ any-next (a .n) (isCaught (a .fork-low .now) (a .fork-high .now) (a .low) (a .high)) (λ j. isCaught (a .fork-low .now) (a .fork-high .now) (a .low) (a .high) j && eqb (getD (a .signers .now) j 0) p) (a .walk .low) (a .walk .high) (l .j + 1) (c .first-in2 .result) (c .before .before .before .before .before .before .before .before .before .before .before .before .before .before .pre .1 .1 .1 .1) (λ i t. and-l (isCaught (a .fork-low .now) (a .fork-high .now) (a .low) (a .high) i) (eqb (getD (a .signers .now) i 0) p) t) (w .0))
 
 returns : tie.Need-returns Inv-loop μ-loop
-returns c = let a = c .before .before .before .before .before .before .args in let l = c .before .loop in λ p h. l .inv .1 p h ∙ any-done (λ j. isCaught (a .fork-low .now) (a .fork-high .now) (a .low) (a .high) j && eqb (getD (a .signers .now) j 0) p) (l .j) (a .n) (l .inv .0) (c .loop-test .left)
+returns c = let a = c .before .before .before .before .before .before .args in let l = c .before .loop in λ p h. l .inv .1 p h ∙ any-done (λ j. isCaught (a .fork-low .now) (a .fork-high .now) (a .low) (a .high) j && eqb (getD (a .signers .now) j 0) p) (l .j) (a .n) (l .inv .0 .next .bound) (c .loop-test .left)
 
 pub caught-in-spec : {M : Type 1} → statement M
 caught-in-spec =
@@ -71,7 +73,7 @@ caught-in-spec =
     (tie.spec
     Inv-loop
     μ-loop
-    next-in-requires
+    first-in-requires
     loop-holds
     has-place-requires
     mul-meet
@@ -81,8 +83,8 @@ caught-in-spec =
     meet-requires
     shared-slice-read-with-acceptor
     with-acceptor-requires
-    add-next-in
-    next-in-requires-2
+    without-first-requires
+    first-in-requires-2
     loop-less
     loop-again
     returns)

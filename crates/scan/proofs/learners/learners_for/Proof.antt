@@ -1,10 +1,10 @@
-use mathlib.Core.Path.{_≡_, _∙_}
+use mathlib.Core.Path.{_≡_, sym, _∙_}
 use mathlib.Core.Bool.{_&&_}
 use Prim.Native.Nat.{ℕ, _≤_, _-_}
 use lib.Dec.{eqb}
 use Rattle.base.specs.Tests.{any, below}
 use Rattle.base.specs.Sets.{has}
-use Rattle.scan.proofs.Loops.{put-again, any-done}
+use Rattle.scan.proofs.Loops.{put-again, any-done, any-none}
 use Rattle.scan.proofs.Membership.{has-zero}
 use Rattle.graph.specs.LearnerGraph.{isQuorum}
 use Rattle.graph.specs.Held.{heldGraph}
@@ -20,6 +20,9 @@ Inv-loop counts masks forms fresh tops signers acceptors k n low high ballot set
 
 abbrev μ-loop : tie.MeasureT-loop
 μ-loop counts masks forms fresh tops signers acceptors k n low high ballot sets mask₀ a₀ mask a = k - a
+
+returns : tie.Need-returns Inv-loop μ-loop
+returns c = let a = c .before .before .before .before .before .before .before .args in λ m q. has-zero q ∙ sym (any-none (λ x. isQuorum (heldGraph (a .acceptors) m (a .counts .now) (a .masks .now)) x (backedBy (a .forms .now) (a .fresh .now) (a .tops .now) (a .signers .now) (a .n) (a .low) (a .high) (a .ballot) x) && eqb x q) (a .k) (λ x h t. let e = c .if1 .taken in omega arith))
 
 backers-requires : tie.Need-backers-requires Inv-loop μ-loop
 backers-requires c κs = search needs
@@ -47,14 +50,14 @@ loop-less : tie.Need-loop-less Inv-loop μ-loop
 loop-less c = search needs
 
 loop-again : tie.Need-loop-again Inv-loop μ-loop
-loop-again c = let a = c .before .before .before .before .before .before .before .before .before .before .before .args in let l = c .before .before .before .loop in let few = c .before .before .before .before .before .before .before .before .before .before .before .pre .0 in (
+loop-again c = let a = c .before .before .before .before .before .before .before .before .before .before .before .before .args in let l = c .before .before .before .loop in let few = c .before .before .before .before .before .before .before .before .before .before .before .before .pre .0 in (
   omega arith,
   λ m q. put-again (λ x. isQuorum (heldGraph (a .acceptors) m (a .counts .now) (a .masks .now)) x (backedBy (a .forms .now) (a .fresh .now) (a .tops .now) (a .signers .now) (a .n) (a .low) (a .high) (a .ballot) x)) (λ x. x) (l .a) q (c .before .is-quorum .result) _ _ (c .with-learner .ensures q)
       (c .before .is-quorum .ensures m ∙ quorum-cong (heldGraph (a .acceptors) m (a .counts .now) (a .masks .now)) (l .a) _ _ (λ p h. c .before .before .before .before .backers .ensures .1 (l .a) p (c .before .before .loop-test .taken) (omega arith))) (l .inv .1 m q),
 )
 
-returns : tie.Need-returns Inv-loop μ-loop
-returns c = let a = c .before .before .before .before .before .before .before .before .before .args in let l = c .before .loop in λ m q. l .inv .1 m q ∙ any-done (λ x. isQuorum (heldGraph (a .acceptors) m (a .counts .now) (a .masks .now)) x (backedBy (a .forms .now) (a .fresh .now) (a .tops .now) (a .signers .now) (a .n) (a .low) (a .high) (a .ballot) x) && eqb x q) (l .a) (a .k) (l .inv .0) (c .loop-test .left)
+returns-2 : tie.Need-returns-2 Inv-loop μ-loop
+returns-2 c = let a = c .before .before .before .before .before .before .before .before .before .before .args in let l = c .before .loop in λ m q. l .inv .1 m q ∙ any-done (λ x. isQuorum (heldGraph (a .acceptors) m (a .counts .now) (a .masks .now)) x (backedBy (a .forms .now) (a .fresh .now) (a .tops .now) (a .signers .now) (a .n) (a .low) (a .high) (a .ballot) x) && eqb x q) (l .a) (a .k) (l .inv .0) (c .loop-test .left)
 
 pub learners-for-spec : {M : Type 1} → statement M
 learners-for-spec =
@@ -62,6 +65,7 @@ learners-for-spec =
     (tie.spec
     Inv-loop
     μ-loop
+    returns
     backers-requires
     loop-holds
     mul-is-quorum
@@ -71,4 +75,4 @@ learners-for-spec =
     add-a
     loop-less
     loop-again
-    returns)
+    returns-2)

@@ -1,18 +1,19 @@
 use mathlib.Core.Path.{_≡_, sym, _∙_}
-use Prim.Native.Nat.{ℕ, _+_, _≤_, _<_, _-_}
+use Prim.Native.Nat.{ℕ, _+_, _<_, _-_}
 use borrow.Author.Count.{below-more}
 use Rattle.scan.proofs.Naming.{lent, other, passed}
 use Rattle.scan.specs.Arrays.{idIn}
+use Rattle.scan.proofs.Walks.{Left, walk-begun, walked-on}
 use borrow.Author.Needs.{needs}
 use native.Mathlib.Omega.{arith}
 use Rattle.scan.proofs.names.name_of.Statement.{statement}
 use Rattle.scan.proofs.names.name_of.Tie as tie
 
 abbrev Inv-loop : tie.InvT-loop
-Inv-loop ids n id key-low key-high k low high i₀ i = (i ≤ n) × ((k : ℕ) → k < i → idIn ids k ≡ id → ⊥)
+Inv-loop ids n id key-low key-high k low high rest₀ i₀ rest i = Left n (rest₀ .low) (rest₀ .high) (rest .low) (rest .high) i × ((k : ℕ) → k < i → idIn ids k ≡ id → ⊥)
 
 abbrev μ-loop : tie.MeasureT-loop
-μ-loop ids n id key-low key-high k low high i₀ i = n - i
+μ-loop ids n id key-low key-high k low high rest₀ i₀ rest i = n - i
 
 id-key-requires : tie.Need-id-key-requires Inv-loop μ-loop
 id-key-requires c κs = search needs
@@ -29,11 +30,11 @@ mul-high c = let e = c .before .id-key .ensures in omega arith
 shared-slice-read-high : tie.Need-shared-slice-read-high Inv-loop μ-loop
 shared-slice-read-high c = let e = c .before .before .id-key .ensures in omega arith
 
-next-in-requires : tie.Need-next-in-requires Inv-loop μ-loop
-next-in-requires c κs = search needs
+first-in-requires : tie.Need-first-in-requires Inv-loop μ-loop
+first-in-requires c κs = search needs
 
 loop-holds : tie.Need-loop-holds Inv-loop μ-loop
-loop-holds c = let a = c .before .before .before .before .before .before .before .before .args in (c .next-in .ensures .1 .0, passed (a .ids .now) (a .id .now) (a .n) (c .before .before .before .id-key .result) (a .key-low .now) (a .key-high .now) 0 (c .next-in .result) (c .before .before .before .before .before .before .before .before .pre .1 .1 .1 .1) (c .before .before .before .id-key .ensures) (c .next-in .ensures) (λ k h e. omega arith))
+loop-holds c = let w = walk-begun (c .first-in .ensures) in let a = c .before .before .before .before .before .before .before .before .args in (w .1, passed (a .ids .now) (a .id .now) (a .n) (c .before .before .before .id-key .result) (a .key-low .now) (a .key-high .now) 0 (c .first-in .result) (c .before .before .before .before .before .before .before .before .pre .1 .1 .1 .1) (c .before .before .before .id-key .ensures) (w .0) (λ k h e. omega arith))
 
 mul-at : tie.Need-mul-at Inv-loop μ-loop
 mul-at c = search needs
@@ -54,19 +55,19 @@ same-requires : tie.Need-same-requires Inv-loop μ-loop
 same-requires c κs = search needs
 
 returns : tie.Need-returns Inv-loop μ-loop
-returns c = let a = c .before .before .before .before .before .before .before .before .before .before .before .before .before .args in let l = c .before .before .before .before .loop in record { bound = l .inv .0; here = λ h. sym (lent (a .ids .now) (l .i)) ∙ c .before .same .ensures .0 (c .if1 .taken); first = l .inv .1 }
+returns c = let a = c .before .before .before .before .before .before .before .before .before .before .before .before .before .args in let l = c .before .before .before .before .loop in record { bound = l .inv .0 .next .bound; here = λ h. sym (lent (a .ids .now) (l .i)) ∙ c .before .same .ensures .0 (c .if1 .taken); first = l .inv .1 }
 
-add-next-in : tie.Need-add-next-in Inv-loop μ-loop
-add-next-in c = search needs
+without-first-requires : tie.Need-without-first-requires Inv-loop μ-loop
+without-first-requires c κs = search needs
 
-next-in-requires-2 : tie.Need-next-in-requires-2 Inv-loop μ-loop
-next-in-requires-2 c κs = search needs
+first-in-requires-2 : tie.Need-first-in-requires-2 Inv-loop μ-loop
+first-in-requires-2 c κs = search needs
 
 loop-less : tie.Need-loop-less Inv-loop μ-loop
-loop-less c = search needs
+loop-less c = let l = c .before .before .before .before .before .before .loop in let w = walked-on (l .inv .0) (c .before .before .before .before .before .loop-test .taken) (c .before .without-first .ensures) (c .first-in2 .ensures) in omega arith
 
 loop-again : tie.Need-loop-again Inv-loop μ-loop
-loop-again c = let a = c .before .before .before .before .before .before .before .before .before .before .before .before .before .before .args in let l = c .before .before .before .before .before .loop in (c .next-in2 .ensures .1 .0, passed (a .ids .now) (a .id .now) (a .n) (c .before .before .before .before .before .before .before .before .before .id-key .result) (a .key-low .now) (a .key-high .now) (l .i + 1) (c .next-in2 .result) (c .before .before .before .before .before .before .before .before .before .before .before .before .before .before .pre .1 .1 .1 .1) (c .before .before .before .before .before .before .before .before .before .id-key .ensures) (c .next-in2 .ensures) (below-more _ _ (l .inv .1) (λ e. other (c .before .before .same .ensures .1 (lent (a .ids .now) (l .i) ∙ e)) (c .before .if1 .left))))
+loop-again c = let a = c .before .before .before .before .before .before .before .before .before .before .before .before .before .before .before .args in let l = c .before .before .before .before .before .before .loop in let w = walked-on (l .inv .0) (c .before .before .before .before .before .loop-test .taken) (c .before .without-first .ensures) (c .first-in2 .ensures) in (w .1, passed (a .ids .now) (a .id .now) (a .n) (c .before .before .before .before .before .before .before .before .before .before .id-key .result) (a .key-low .now) (a .key-high .now) (l .i + 1) (c .first-in2 .result) (c .before .before .before .before .before .before .before .before .before .before .before .before .before .before .before .pre .1 .1 .1 .1) (c .before .before .before .before .before .before .before .before .before .before .id-key .ensures) (w .0) (below-more _ _ (l .inv .1) (λ e. other (c .before .before .before .same .ensures .1 (lent (a .ids .now) (l .i) ∙ e)) (c .before .before .if1 .left))))
 
 returns-2 : tie.Need-returns-2 Inv-loop μ-loop
 returns-2 c = let a = c .before .before .before .before .before .before .before .before .before .before .args in let l = c .before .loop in record { bound = omega arith; here = λ h. absurd (omega arith); first = λ k h. l .inv .1 k (omega arith) }
@@ -82,7 +83,7 @@ name-of-spec =
     shared-slice-read-low
     mul-high
     shared-slice-read-high
-    next-in-requires
+    first-in-requires
     loop-holds
     mul-at
     add-same
@@ -91,8 +92,8 @@ name-of-spec =
     part-same-end
     same-requires
     returns
-    add-next-in
-    next-in-requires-2
+    without-first-requires
+    first-in-requires-2
     loop-less
     loop-again
     returns-2)

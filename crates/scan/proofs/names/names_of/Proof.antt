@@ -5,14 +5,14 @@ use lib.ListN.{length, length-set, getD}
 use mathlib.Core.List.{List}
 use Rattle.scan.proofs.Naming.{lent, named-more, indexed-more}
 use Rattle.scan.specs.PlaceSets.{inSet}
-use Rattle.scan.specs.Arrays.{Lowest, Named, idKey, IdsIndexed}
+use Rattle.scan.specs.Arrays.{Lowest, Named, idKeys, idKey, IdsIndexed}
 use borrow.Author.Needs.{needs}
 use native.Mathlib.Omega.{arith}
 use Rattle.scan.proofs.names.names_of.Statement.{statement}
 use Rattle.scan.proofs.names.names_of.Tie as tie
 
 abbrev Inv-loop : tie.InvT-loop
-Inv-loop ids n names₀ key-low₀ key-high₀ i₀ names key-low key-high i = (i ≤ n) × ((length names ≡ 256) × ((length key-low ≡ 128) × ((length key-high ≡ 128) × (Named ids i names × IdsIndexed ids i key-low key-high))))
+Inv-loop ids n names₀ key-low₀ key-high₀ i₀ names key-low key-high i = (i ≤ n) × ((length names ≡ 256) × ((length key-low ≡ idKeys) × ((length key-high ≡ idKeys) × (Named ids i names × IdsIndexed ids i key-low key-high))))
 
 abbrev μ-loop : tie.MeasureT-loop
 μ-loop ids n names₀ key-low₀ key-high₀ i₀ names key-low key-high i = n - i
