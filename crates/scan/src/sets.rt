@@ -1,7 +1,7 @@
 // Sets as bits: places in two words, acceptors and learners in a mask.
 use crate::Places;
 ghost use mathlib.Core.Path.{_≡_};
-ghost use mathlib.Core.Bool.{false, _&&_, _||_};
+ghost use mathlib.Core.Bool.{_&&_, _||_};
 ghost use Prim.Native.Nat.{ℕ, _≤_, _<_, min, max};
 ghost use lib.Dec.{T, eqb};
 ghost use lib.ListN.{length, getD};
