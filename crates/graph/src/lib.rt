@@ -10,10 +10,10 @@ use file::read_quorums;
 use file::read_rows;
 use valid::is_valid;
 
-pub mod condensed;
-pub mod file;
+mod condensed;
+mod file;
 pub mod lists;
-pub mod valid;
+mod valid;
 
 ghost use mathlib.Core.Path.{_≡_};
 ghost use Prim.Native.Nat.{_≤_};

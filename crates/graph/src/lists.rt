@@ -1,4 +1,6 @@
 // The lists of masks of a graph. Sets are masks, joined, met and compared.
+// These serve this crate and those above it, and ask for learners and lists in range and for arrays of a graph's length: whoever calls them holds a graph
+// that was read, or a round that passed row 17, and has no answer to give a second test.
 use crate::MAX_LEARNERS;
 use crate::MAX_MASKS;
 use crate::Mask;

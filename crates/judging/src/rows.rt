@@ -142,7 +142,7 @@ pub fn lacks_room<'a>(s: &'a [u8], id: &'a [u8]) -> bool
 }
 
 // Rows 13 to 16, from what was worked out.
-pub fn form_row(note: Note, lacks: bool) -> Row
+fn form_row(note: Note, lacks: bool) -> Row
     ensures { λ r. ⌜ r ≡ rowOf (formRow (note .grounded) (note .formed1b) (note .formed2a) lacks) ⌝ }
 {
     if !note.grounded {
