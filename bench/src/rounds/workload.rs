@@ -121,23 +121,33 @@ fn race(name: &str, cases: &[Case], calls: impl Fn(&Case) -> [Call<'_>; CONTESTA
 const AHEAD: f64 = 20.0;
 const AHEAD_FROM: usize = 64;
 
-/// Whoever takes a message hashes it. Where so many digests of the message take
-/// longer than the transcription's delivery, nobody can be so far ahead of it.
+/// Whoever takes a message tests row 17 and hashes it; a known one is then refused.
+/// Where so many such deliveries take longer than the transcription's one, nobody
+/// can be so far ahead of it.
 fn floor(name: &str, cases: &[Case]) {
     for case in cases.iter().filter(|case| case.size >= AHEAD_FROM) {
-        let Case { message, literal, size, .. } = case;
-        let mut digest = [0; 32];
+        let Case { bytes, message, literal, size, .. } = case;
+        let (mut digest, mut reply) = ([0; 32], [0; LONGEST]);
+        let mut known = bytes.clone();
+        assert_eq!(library::deliver(&mut known[..], message, &mut reply), 0);
+        let mut round = known.clone();
         let turns = contest::take_turns(vec![
             Box::new(|| {
                 black_box(library::sha256(black_box(message), &mut digest));
+            }),
+            Box::new(|| {
+                round.copy_from_slice(&known[..]);
+                black_box(library::deliver(&mut round[..], black_box(message), &mut reply));
             }),
             Box::new(|| {
                 black_box(literal.clone().deliver(black_box(message), LONGEST)).ok();
             }),
         ]);
         println!(
-            "{name}, {size} held: {AHEAD} digests / transcription = {}",
-            shown(AHEAD * turns.ratio(0, 1))
+            "{name}, {size} held: {AHEAD} digests / transcription = {}, \
+             {AHEAD} deliveries refused as known / transcription = {}",
+            shown(AHEAD * turns.ratio(0, 2)),
+            shown(AHEAD * turns.ratio(1, 2))
         );
     }
 }

@@ -6,3 +6,5 @@ pub mod Bits
 pub mod Sets
 -- Laws of big-endian numbers and of writing into a buffer
 pub mod Bytes
+-- Laws of lists cut into parts
+pub mod Cuts

@@ -4,7 +4,7 @@ use mathlib.Core.Logic.{_⊎_, inl, inr}
 use mathlib.Core.Bool.{Bool, true, false, not, _&&_, _||_}
 use mathlib.Core.Option.{none}
 use mathlib.Core.List.{List, [], _∷_, _++_}
-use Prim.Native.Nat.{ℕ, _+_, _-_, _<_}
+use Prim.Native.Nat.{ℕ, _+_, _-_, _≤_, _<_}
 use native.Mathlib.Decide.{decLt, ℕ-discrete}
 use native.Mathlib.Omega.{arith}
 use lib.Dec.{T, eqb, ltb, eqb→eq, ltb→lt}
@@ -26,6 +26,7 @@ use Rattle.derive.specs.declared.Worked.{Worked}
 use Rattle.scan.specs.PlaceSets.{inSet}
 use Rattle.scan.specs.Arrays.{Whole, isOffer}
 use Rattle.derive.specs.Notes.{Noted, Known, Told}
+use Rattle.derive.specs.Reached.{ReachedBy, Reached}
 use Rattle.scan.proofs.Membership.{has-zero, in-zero}
 
 -- ---- the notes of a place stay right
@@ -46,13 +47,33 @@ noted-grows G t u ord i l h =
     e : tree (t ++ u) i ≡ tree t i
     e = tree-append t u ord i l
 
--- ---- what was worked out, with the place itself put in
-pub noted-told : (G : LearnerGraph) (u : Table) → Ordered u → (n : ℕ) → n < 128 → (r : Worked) → Told G u n r → (low high : ℕ)
+-- ---- what a place reaches, with the place itself put in
+pub self-reached : (u : Table) → Ordered u → (n : ℕ) (lo hi : ℕ) → ((q : ℕ) → q < n → inSet lo hi q ≡ reach u n q) → ((q : ℕ) → n ≤ q → q < 128 → T (inSet lo hi q) → ⊥)
+    → (low high : ℕ) → ((q : ℕ) → q < 128 → inSet low high q ≡ (eqb n q || inSet lo hi q)) → (q : ℕ) → q < 128 → inSet low high q ≡ reach u n q
+self-reached u ord n lo hi reaches others low high w q l = w q l ∙ same-test _ _ (λ k. to (or-out (eqb n q) (inSet lo hi q) k)) (λ k. from k (decLt q n))
+  where
+    to : T (eqb n q) ⊎ T (inSet lo hi q) → T (reach u n q)
+    to (inl e) = subst (λ (k : ℕ). T (reach u n k)) (eqb→eq n q e) (reach-self u ord n)
+    to (inr k) = step (decLt q n)
+      where
+        step : Dec (q < n) → T (reach u n q)
+        step (yes g) = subst T (reaches q g) k
+        step (no g) = absurd (others q (omega arith) l k)
+
+    from : T (reach u n q) → Dec (q < n) → T (eqb n q || inSet lo hi q)
+    from k (yes g) = or-r (eqb n q) (inSet lo hi q) (subst T (sym (reaches q g)) k)
+    from k (no g) =
+        let d = reach-le u ord n q k in
+        let e : n ≡ q = omega arith in
+        or-l (eqb n q) (inSet lo hi q) (eq→eqb e)
+
+-- what was worked out
+pub noted-told : (G : LearnerGraph) (u : Table) → Ordered u → (n : ℕ) → (r : Worked) → Told G u n r → (low high : ℕ)
     → ((q : ℕ) → q < 128 → inSet low high q ≡ (eqb n q || inSet (r .beneath .low) (r .beneath .high) q))
     → Noted G u n low high (r .forks .low) (r .forks .high) (r .ballot) (r .learners) (r .fresh) (r .form)
-noted-told G u ord n small r h low high w =
+noted-told G u ord n r h low high w =
     record {
-      reaches = λ q l. w q l ∙ same-test _ _ (λ k. to q l (or-out (eqb n q) (inSet (r .beneath .low) (r .beneath .high) q) k)) (λ k. from q k (decLt q n));
+      reaches = self-reached u ord n (r .beneath .low) (r .beneath .high) (h .reaches) (h .none) low high w;
       forking = h .forking;
       ballot = h .ballot;
       first = h .first;
@@ -60,21 +81,6 @@ noted-told G u ord n small r h low high w =
       learning = h .learning;
       freshly = h .freshly;
     }
-  where
-    to : (q : ℕ) → q < 128 → T (eqb n q) ⊎ T (inSet (r .beneath .low) (r .beneath .high) q) → T (reach u n q)
-    to q l (inl e) = subst (λ (k : ℕ). T (reach u n k)) (eqb→eq n q e) (reach-self u ord n)
-    to q l (inr k) = step (decLt q n)
-      where
-        step : Dec (q < n) → T (reach u n q)
-        step (yes g) = subst T (h .reaches q g) k
-        step (no g) = absurd (h .none q (omega arith) l k)
-
-    from : (q : ℕ) → T (reach u n q) → Dec (q < n) → T (eqb n q || inSet (r .beneath .low) (r .beneath .high) q)
-    from q k (yes g) = or-r (eqb n q) (inSet (r .beneath .low) (r .beneath .high) q) (subst T (sym (h .reaches q g)) k)
-    from q k (no g) =
-        let d = reach-le u ord n q k in
-        let e : n ≡ q = omega arith in
-        or-l (eqb n q) (inSet (r .beneath .low) (r .beneath .high) q) (eq→eqb e)
 
 -- ---- a proposal reaches itself alone
 none-of : (a b c d : Bool) → (a && false && b && c && d) ≡ false
@@ -88,16 +94,25 @@ or-false false = refl
 no-two : (a b : Bool) → a ≡ false → (a && b) ≡ false
 no-two a b e = ap (λ (x : Bool). x && b) e
 
+pub offer-reached : (u : Table) → Ordered u → (n : ℕ) → (id : Id) (s x : ℕ) → at u n ≡ offers id s x → (low high : ℕ)
+    → ((q : ℕ) → q < 128 → inSet low high q ≡ (eqb n q || inSet 0 0 q)) → ReachedBy u n low high x
+unfolding places any ballotBy
+offer-reached u ord n id s x e low high w =
+    record {
+      reaches = λ q l. w q l ∙ ap (λ (b : Bool). eqb n q || b) (in-zero q) ∙ sym (reach-is u ord n q ∙ ap (λ (r : Held). eqb n q || any (λ k. reach u k q) (places r)) e);
+      ballot = sym (ballot-at u ord n ∙ ap (ballotBy (ballotAt u)) e);
+    }
+
 pub noted-offer : (G : LearnerGraph) (u : Table) → Ordered u → (n : ℕ) → (id : Id) (s x : ℕ) → at u n ≡ offers id s x → (low high : ℕ)
     → ((q : ℕ) → q < 128 → inSet low high q ≡ (eqb n q || inSet 0 0 q)) → Noted G u n low high 0 0 x 0 0 0
 unfolding offered places any forksHeld ballotBy
 noted-offer G u ord n id s x e low high w =
     record {
-      reaches = λ q l. w q l ∙ ap (λ (b : Bool). eqb n q || b) (in-zero q) ∙ sym (reach-is u ord n q ∙ ap (λ (r : Held). eqb n q || any (λ k. reach u k q) (places r)) e);
+      reaches = offer-reached u ord n id s x e low high w .reaches;
       forking = λ j l. in-zero j ∙ sym (ap (λ (b : Bool). ltb j n && b) (forks-at u u j n ∙ ap (forksHeld (at u j)) e
           ∙ none-of (not (offered (at u j))) (eqb (heldSigner (at u j)) (heldSigner (offers id s x))) (not (sameId (heldId (at u j)) (heldId (offers id s x))))
           (samePrevious (heldPrevious (at u j)) (heldPrevious (offers id s x)))) ∙ nothing (ltb j n));
-      ballot = sym (ballot-at u ord n ∙ ap (ballotBy (ballotAt u)) e);
+      ballot = offer-reached u ord n id s x e low high w .ballot;
       first = sym first;
       second = sym second;
       learning = λ a la. has-zero a ∙ sym (lrns-at u G ord n n (omega arith) a ∙ no-two (is2aAt u n) _ second);
@@ -115,9 +130,7 @@ noted-offer G u ord n id s x e low high w =
     second = is2a-at u ord n ∙ ap (λ (r : Held). not (offered r) && not (any (λ k. offered (at u k)) (places r))) e
 
 -- ---- one more place
-module _ (G : LearnerGraph) (t : Table) (kinds signers low high forkLow forkHigh tops learners freshes forms : List ℕ)
-    (kn : Known G t kinds signers low high forkLow forkHigh tops learners freshes forms) (r : Held) (n : ℕ) (size : length t ≡ n) (small : n < 128)
-    (ord : Ordered (t ++ r ∷ [])) (kind : isOffer kinds n ≡ offered r) (signer : getD signers n 0 ≡ heldSigner r) where
+module _ (t : Table) (r : Held) (n : ℕ) (size : length t ≡ n) where
   old-or-new : (P : ℕ → Type 0) → ((i : ℕ) → i < length t → P i) → P n → (i : ℕ) → i < length (t ++ r ∷ []) → P i
   old-or-new P f h i l = step (ℕ-discrete i n)
     where
@@ -128,15 +141,43 @@ module _ (G : LearnerGraph) (t : Table) (kinds signers low high forkLow forkHigh
   at-last : at (t ++ r ∷ []) n ≡ r
   at-last = ap (at (t ++ r ∷ [])) (sym size) ∙ at-end t r
 
+-- what it reaches, and its ballot
+pub reached-more : (t : Table) (kinds low high tops : List ℕ) → Reached t kinds low high tops → (r : Held) (n : ℕ) → length t ≡ n → n < 128 → Ordered (t ++ r ∷ [])
+    → isOffer kinds n ≡ offered r → Whole low → Whole high → Whole tops → (a b e : ℕ) → ReachedBy (t ++ r ∷ []) n a b e
+    → Reached (t ++ r ∷ []) kinds (set low n a) (set high n b) (set tops n e)
+reached-more t kinds low high tops rd r n size small ord kind h₁ h₂ h₃ a b e new =
+    record {
+      ordered = ord;
+      kind = old-or-new t r n size (λ i. isOffer kinds i ≡ offered (at (t ++ r ∷ []) i)) (λ i l. rd .kind i l ∙ ap offered (sym (at-append t (r ∷ []) i l))) (kind ∙ ap offered (sym (at-last t r n size)));
+      reached = old-or-new t r n size (λ i. ReachedBy (t ++ r ∷ []) i (getD (set low n a) i 0) (getD (set high n b) i 0) (getD (set tops n e) i 0)) before here;
+    }
+  where
+    before : (i : ℕ) → i < length t → ReachedBy (t ++ r ∷ []) i (getD (set low n a) i 0) (getD (set high n b) i 0) (getD (set tops n e) i 0)
+    before i l =
+        let d : i ≡ n → ⊥ = λ q. omega arith in
+        let h = rd .reached i l in
+        rw (getD-set-other low n i a 0 d, getD-set-other high n i b 0 d, getD-set-other tops n i e 0 d)
+        (record { reaches = λ j lj. h .reaches j lj ∙ sym (reach-append t (r ∷ []) (rd .ordered) i j l); ballot = h .ballot ∙ ap ballot (sym (tree-append t (r ∷ []) (rd .ordered) i l)) })
+
+    here : ReachedBy (t ++ r ∷ []) n (getD (set low n a) n 0) (getD (set high n b) n 0) (getD (set tops n e) n 0)
+    here = rw (getD-set-same low n a 0 (omega arith), getD-set-same high n b 0 (omega arith), getD-set-same tops n e 0 (omega arith)) new
+
+pub reached-none : (kinds low high tops : List ℕ) → Reached [] kinds low high tops
+reached-none kinds low high tops = record { ordered = ordered-nil; kind = λ i l. absurd (omega arith); reached = λ i l. absurd (omega arith) }
+
+-- the notes
+module _ (G : LearnerGraph) (t : Table) (kinds signers low high forkLow forkHigh tops learners freshes forms : List ℕ)
+    (kn : Known G t kinds signers low high forkLow forkHigh tops learners freshes forms) (r : Held) (n : ℕ) (size : length t ≡ n) (small : n < 128)
+    (ord : Ordered (t ++ r ∷ [])) (kind : isOffer kinds n ≡ offered r) (signer : getD signers n 0 ≡ heldSigner r) where
   pub known-more : Whole low → Whole high → Whole forkLow → Whole forkHigh → Whole tops → Whole learners → Whole freshes → Whole forms
       → (a b c d e f g h : ℕ) → Noted G (t ++ r ∷ []) n a b c d e f g h
       → Known G (t ++ r ∷ []) kinds signers (set low n a) (set high n b) (set forkLow n c) (set forkHigh n d) (set tops n e) (set learners n f) (set freshes n g) (set forms n h)
   known-more h₁ h₂ h₃ h₄ h₅ h₆ h₇ h₈ a b c d e f g h new =
       record {
         ordered = ord;
-        kind = old-or-new (λ i. isOffer kinds i ≡ offered (at (t ++ r ∷ []) i)) (λ i l. kn .kind i l ∙ ap offered (sym (at-append t (r ∷ []) i l))) (kind ∙ ap offered (sym at-last));
-        signer = old-or-new (λ i. getD signers i 0 ≡ heldSigner (at (t ++ r ∷ []) i)) (λ i l. kn .signer i l ∙ ap heldSigner (sym (at-append t (r ∷ []) i l))) (signer ∙ ap heldSigner (sym at-last));
-        noted = old-or-new (λ i. Noted G (t ++ r ∷ []) i (getD (set low n a) i 0) (getD (set high n b) i 0) (getD (set forkLow n c) i 0) (getD (set forkHigh n d) i 0)
+        kind = old-or-new t r n size (λ i. isOffer kinds i ≡ offered (at (t ++ r ∷ []) i)) (λ i l. kn .kind i l ∙ ap offered (sym (at-append t (r ∷ []) i l))) (kind ∙ ap offered (sym (at-last t r n size)));
+        signer = old-or-new t r n size (λ i. getD signers i 0 ≡ heldSigner (at (t ++ r ∷ []) i)) (λ i l. kn .signer i l ∙ ap heldSigner (sym (at-append t (r ∷ []) i l))) (signer ∙ ap heldSigner (sym (at-last t r n size)));
+        noted = old-or-new t r n size (λ i. Noted G (t ++ r ∷ []) i (getD (set low n a) i 0) (getD (set high n b) i 0) (getD (set forkLow n c) i 0) (getD (set forkHigh n d) i 0)
             (getD (set tops n e) i 0) (getD (set learners n f) i 0) (getD (set freshes n g) i 0) (getD (set forms n h) i 0)) before here;
       }
     where

@@ -1,3 +1,5 @@
+-- What a message reaches, its ballot, and whether it is a well-formed 1b
+pub mod Reaching
 -- What is worked out for a message is what the definitions say
 pub mod Working
 -- The notes of a table that grows
@@ -14,3 +16,7 @@ pub mod Naming
 pub mod Walking
 -- What stays of the notes when one place more is held
 pub mod Keeping
+-- The notes in two lent arrays, written in place
+pub mod Lending
+-- One place more of them
+pub mod Extending

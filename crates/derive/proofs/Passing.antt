@@ -7,18 +7,20 @@ use Prim.Native.Nat.{ℕ, zero, suc, _+_, _-_, _*_, _≤_, _<_}
 use native.Mathlib.Numerals.{add-one}
 use native.Mathlib.Omega.{arith}
 use lib.Dec.{eqb}
-use lib.ListN.{getD, set, take, drop}
+use lib.ListN.{length, getD, set, take, drop}
 use Rattle.base.specs.Tests.{_∈_}
 use Rattle.graph.specs.LearnerGraph.{LearnerGraph}
 use Rattle.protocol.specs.Table.{Held, says, tabulate, places, Ordered}
 use Rattle.protocol.proofs.Growth.{ordered-snoc, ordered-nil, length-tabulate, at-tabulate}
 use Rattle.derive.specs.declared.Worked.{Worked}
 use Rattle.scan.specs.PlaceSets.{inSet}
-use Rattle.scan.specs.Arrays.{Whole, isOffer, idIn, Named}
+use Rattle.scan.specs.Arrays.{Whole, isOffer, Beneath, idIn, Named}
 use Rattle.derive.specs.Records.{namedIn, referencesIn, recordIn, Fit}
 use Rattle.derive.specs.Notes.{Noted, NotedBy, Known, Candidate, Told}
 use Rattle.derive.proofs.Naming.{record-signer, record-kind, record-says, record-offers, candidate}
-use Rattle.derive.proofs.Growing.{noted-told, noted-offer, known-more}
+use Rattle.derive.specs.Reached.{ReachedBy, Reached}
+use Rattle.derive.proofs.Growing.{self-reached, noted-told, offer-reached, noted-offer, reached-more, known-more}
+use Rattle.derive.proofs.Reaching as reaching
 
 -- what is asked of members holds of each entry, and 0 stands behind the last
 pub entry-below : (l : List ℕ) (k : ℕ) → 0 < k → ((j : ℕ) → j ∈ l → j < k) → (i : ℕ) → getD l i 0 < k
@@ -30,7 +32,7 @@ entry-below (x ∷ l) k z h (suc i) = entry-below l k z (λ j m. h j (List·Mem�
 pub lent-references : (counts references : List ℕ) (p c : ℕ) → c ≡ getD counts p 0 → take (128 * p + c - 128 * p) (drop (128 * p) references) ≡ referencesIn counts references p
 lent-references counts references p c e = let d : 128 * p + c - 128 * p ≡ getD counts p 0 = omega arith in ap (λ (k : ℕ). take k (drop (128 * p) references)) d
 
-module _ (G : LearnerGraph) (ids kinds signers ballots previous counts references : List ℕ) (n : ℕ) (fit : Fit n kinds previous counts references) where
+module _ (ids kinds signers ballots previous counts references : List ℕ) (n : ℕ) (fit : Fit n kinds previous counts references) where
   abbrev f : ℕ → Held
   f = recordIn ids kinds signers ballots previous counts references
 
@@ -53,32 +55,70 @@ module _ (G : LearnerGraph) (ids kinds signers ballots previous counts reference
       candidate ids kinds signers ballots previous counts references n p fit (omega arith) names h (idIn ids p) (getD names p 0) y ps (h .each p l)
       (subst (λ (k : ℕ). (k ≡ 255) ⊎ (k < n)) (sym ey) (fit .named p l)) (λ j m. fit .back p l acc j (subst (λ (x : List ℕ). j ∈ x) eps m))
 
+  -- what place p reaches, and its ballot: an acceptor message, a proposal, and one place more
+  pub held-reached : (p : ℕ) → p < n → isOffer kinds p ≡ false → (low high tops : List ℕ) → Reached (tabulate p f) kinds low high tops → (ps : List ℕ) → ps ≡ referencesIn counts references p
+      → (lo hi bal : ℕ) (o : Bool) → Beneath low high tops kinds ps lo hi bal o → (a b : ℕ) → ((q : ℕ) → q < 128 → inSet a b q ≡ (eqb p q || inSet lo hi q))
+      → ReachedBy (tabulate (suc p) f) p a b bal
+  unfolding tabulate
+  held-reached p l acc low high tops rd ps eps lo hi bal o bt a b w =
+      let z = length-tabulate p f in
+      let few : p ≤ 128 = (let m = fit .held in omega arith) in
+      let back : (j : ℕ) → j ∈ ps → j < length (tabulate p f) = (λ j m. let g = fit .back p l acc j (subst (λ (x : List ℕ). j ∈ x) eps m) in omega arith) in
+      let same : says (idIn ids p) (getD signers p 0) (namedIn ids (getD previous p 0)) ps ≡ f p =
+      (λ e. says (idIn ids p) (getD signers p 0) (namedIn ids (getD previous p 0)) (eps e)) ∙ sym (record-says ids kinds signers ballots previous counts references p acc) in
+      subst (λ (h : Held). ReachedBy (tabulate p f ++ h ∷ []) p a b bal) same
+      (record {
+        reaches = self-reached _ (reaching.ord (tabulate p f) kinds low high tops ps rd (idIn ids p) (getD signers p 0) (namedIn ids (getD previous p 0)) p z few back) p lo hi
+            (reaching.beneath-told (tabulate p f) kinds low high tops ps rd (idIn ids p) (getD signers p 0) (namedIn ids (getD previous p 0)) p z few back lo hi bal o bt)
+            (reaching.none-told (tabulate p f) kinds low high tops ps rd (idIn ids p) (getD signers p 0) (namedIn ids (getD previous p 0)) p z few back lo hi bal o bt) a b w;
+        ballot = reaching.ballot-told (tabulate p f) kinds low high tops ps rd (idIn ids p) (getD signers p 0) (namedIn ids (getD previous p 0)) p z few back lo hi bal o bt;
+      })
+
+  pub offered-reached : (p : ℕ) → p < n → isOffer kinds p ≡ true → (a b : ℕ) → ((q : ℕ) → q < 128 → inSet a b q ≡ (eqb p q || inSet 0 0 q))
+      → ReachedBy (tabulate (suc p) f) p a b (getD ballots p 0)
+  offered-reached p l off a b w =
+      offer-reached (tabulate (suc p) f) (ordered-in (suc p) (omega arith)) p (idIn ids p) (getD signers p 0) (getD ballots p 0)
+      (at-tabulate (suc p) f p (omega arith) ∙ record-offers ids kinds signers ballots previous counts references p off) a b w
+
+  pub reach-more : (p : ℕ) → p < n → (low high tops : List ℕ) → Whole low → Whole high → Whole tops → Reached (tabulate p f) kinds low high tops → (a b e : ℕ)
+      → ReachedBy (tabulate (suc p) f) p a b e → Reached (tabulate (p + 1) f) kinds (set low p a) (set high p b) (set tops p e)
+  unfolding tabulate
+  reach-more p l low high tops h₁ h₂ h₃ rd a b e new =
+      subst (λ (m : ℕ). Reached (tabulate m f) kinds (set low p a) (set high p b) (set tops p e)) (sym (add-one p))
+      (reached-more (tabulate p f) kinds low high tops rd (f p) p (length-tabulate p f) (let z = fit .held in omega arith) (ordered-in (suc p) (omega arith))
+      (record-kind ids kinds signers ballots previous counts references p) h₁ h₂ h₃ a b e new)
+
+-- the notes of place p
+module _ (G : LearnerGraph) (ids kinds signers ballots previous counts references : List ℕ) (n : ℕ) (fit : Fit n kinds previous counts references) where
+  abbrev rec : ℕ → Held
+  rec = recordIn ids kinds signers ballots previous counts references
+
   pub held-noted : (p : ℕ) → p < n → isOffer kinds p ≡ false → (y : ℕ) → y ≡ getD previous p 0 → (ps : List ℕ) → ps ≡ referencesIn counts references p → (r : Worked)
-      → Told G (tabulate p f ++ says (idIn ids p) (getD signers p 0) (namedIn ids y) ps ∷ []) p r → (low high : ℕ)
+      → Told G (tabulate p rec ++ says (idIn ids p) (getD signers p 0) (namedIn ids y) ps ∷ []) p r → (low high : ℕ)
       → ((q : ℕ) → q < 128 → inSet low high q ≡ (eqb p q || inSet (r .beneath .low) (r .beneath .high) q))
-      → Noted G (tabulate (suc p) f) p low high (r .forks .low) (r .forks .high) (r .ballot) (r .learners) (r .fresh) (r .form)
+      → Noted G (tabulate (suc p) rec) p low high (r .forks .low) (r .forks .high) (r .ballot) (r .learners) (r .fresh) (r .form)
   unfolding tabulate
   held-noted p l acc y ey ps eps r told low high w =
-      noted-told G (tabulate (suc p) f) (ordered-in (suc p) (omega arith)) p (let z = fit .held in omega arith) r (subst (λ (h : Held). Told G (tabulate p f ++ h ∷ []) p r) same told) low high w
+      noted-told G (tabulate (suc p) rec) (ordered-in ids kinds signers ballots previous counts references n fit (suc p) (omega arith)) p r (subst (λ (h : Held). Told G (tabulate p rec ++ h ∷ []) p r) same told) low high w
     where
-      same : says (idIn ids p) (getD signers p 0) (namedIn ids y) ps ≡ f p
+      same : says (idIn ids p) (getD signers p 0) (namedIn ids y) ps ≡ rec p
       same = (λ e. says (idIn ids p) (getD signers p 0) (namedIn ids (ey e)) (eps e)) ∙ sym (record-says ids kinds signers ballots previous counts references p acc)
 
   pub offer-noted : (p : ℕ) → p < n → isOffer kinds p ≡ true → (low high : ℕ) → ((q : ℕ) → q < 128 → inSet low high q ≡ (eqb p q || inSet 0 0 q))
-      → Noted G (tabulate (suc p) f) p low high 0 0 (getD ballots p 0) 0 0 0
+      → Noted G (tabulate (suc p) rec) p low high 0 0 (getD ballots p 0) 0 0 0
   offer-noted p l off low high w =
-      noted-offer G (tabulate (suc p) f) (ordered-in (suc p) (omega arith)) p (idIn ids p) (getD signers p 0) (getD ballots p 0)
-      (at-tabulate (suc p) f p (omega arith) ∙ record-offers ids kinds signers ballots previous counts references p off) low high w
+      noted-offer G (tabulate (suc p) rec) (ordered-in ids kinds signers ballots previous counts references n fit (suc p) (omega arith)) p (idIn ids p) (getD signers p 0) (getD ballots p 0)
+      (at-tabulate (suc p) rec p (omega arith) ∙ record-offers ids kinds signers ballots previous counts references p off) low high w
 
   pub pass-more : (p : ℕ) → p < n → (low high forkLow forkHigh tops learners freshes forms : List ℕ)
       → Whole low → Whole high → Whole forkLow → Whole forkHigh → Whole tops → Whole learners → Whole freshes → Whole forms
-      → Known G (tabulate p f) kinds signers low high forkLow forkHigh tops learners freshes forms → (r : Worked) → NotedBy G (tabulate (suc p) f) p r
-      → Known G (tabulate (p + 1) f) kinds signers (set low p (r .beneath .low)) (set high p (r .beneath .high)) (set forkLow p (r .forks .low)) (set forkHigh p (r .forks .high))
+      → Known G (tabulate p rec) kinds signers low high forkLow forkHigh tops learners freshes forms → (r : Worked) → NotedBy G (tabulate (suc p) rec) p r
+      → Known G (tabulate (p + 1) rec) kinds signers (set low p (r .beneath .low)) (set high p (r .beneath .high)) (set forkLow p (r .forks .low)) (set forkHigh p (r .forks .high))
       (set tops p (r .ballot)) (set learners p (r .learners)) (set freshes p (r .fresh)) (set forms p (r .form))
   unfolding tabulate
   pass-more p l low high forkLow forkHigh tops learners freshes forms h₁ h₂ h₃ h₄ h₅ h₆ h₇ h₈ kn r new =
-      subst (λ (m : ℕ). Known G (tabulate m f) kinds signers (set low p (r .beneath .low)) (set high p (r .beneath .high)) (set forkLow p (r .forks .low)) (set forkHigh p (r .forks .high))
+      subst (λ (m : ℕ). Known G (tabulate m rec) kinds signers (set low p (r .beneath .low)) (set high p (r .beneath .high)) (set forkLow p (r .forks .low)) (set forkHigh p (r .forks .high))
       (set tops p (r .ballot)) (set learners p (r .learners)) (set freshes p (r .fresh)) (set forms p (r .form))) (sym (add-one p))
-      (known-more G (tabulate p f) kinds signers low high forkLow forkHigh tops learners freshes forms kn (f p) p (length-tabulate p f) (let z = fit .held in omega arith)
-      (ordered-in (suc p) (omega arith)) (record-kind ids kinds signers ballots previous counts references p) (record-signer ids kinds signers ballots previous counts references p)
+      (known-more G (tabulate p rec) kinds signers low high forkLow forkHigh tops learners freshes forms kn (rec p) p (length-tabulate p rec) (let z = fit .held in omega arith)
+      (ordered-in ids kinds signers ballots previous counts references n fit (suc p) (omega arith)) (record-kind ids kinds signers ballots previous counts references p) (record-signer ids kinds signers ballots previous counts references p)
       h₁ h₂ h₃ h₄ h₅ h₆ h₇ h₈ (r .beneath .low) (r .beneath .high) (r .forks .low) (r .forks .high) (r .ballot) (r .learners) (r .fresh) (r .form) new)

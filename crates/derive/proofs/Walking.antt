@@ -116,9 +116,9 @@ module _ (n : ℕ) (kinds signers names previous forkLow forkHigh tops forms key
         keyHighFit = put .highKept;
       }
 
-pub marks-none : (kinds signers names previous forkLow forkHigh tops forms keyLow keyHigh : List ℕ) → length keyLow ≡ keys → length keyHigh ≡ keys
-    → Marks 0 kinds signers names previous forkLow forkHigh tops forms keyLow keyHigh 0 0
-marks-none kinds signers names previous forkLow forkHigh tops forms keyLow keyHigh l h =
+pub marks-none : (kinds signers names previous forkLow forkHigh tops forms keyLow keyHigh : List ℕ) (low high : ℕ) → length keyLow ≡ keys → length keyHigh ≡ keys
+    → Marks 0 kinds signers names previous forkLow forkHigh tops forms keyLow keyHigh low high
+marks-none kinds signers names previous forkLow forkHigh tops forms keyLow keyHigh low high l h =
     record {
       bySigner = λ j i. absurd (omega arith);
       byLink = λ j i. absurd (omega arith);

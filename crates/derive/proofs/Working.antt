@@ -3,41 +3,40 @@ use mathlib.Core.Path.{_≡_, refl, sym, ap, ap₂, subst, _∙_}
 use mathlib.Core.Logic.{_⊎_, inl, inr}
 use mathlib.Core.Bool.{Bool, true, false, not, _&&_, _||_}
 use mathlib.Core.Option.{Option}
-use mathlib.Core.List.{List, [], _∷_, _++_, List·Memᴰ·head, List·Memᴰ·tail}
-use Prim.Native.Nat.{ℕ, zero, suc, _≤_, _<_, max, _^_}
+use mathlib.Core.List.{List, [], _∷_, _++_}
+use Prim.Native.Nat.{ℕ, zero, suc, _≤_, _<_, _^_}
 use native.Mathlib.Decide.{decLt}
 use native.Mathlib.Omega.{arith}
-use borrow.Author.Tests.{ne-eqb, lt-ltb, le-ltb}
+use borrow.Author.Tests.{lt-ltb, le-ltb}
 use lib.Dec.{T, eqb, ltb, eqb→eq, ltb→lt, lt→ltb, not-T, T-not}
 use lib.ListN.{length, getD}
 use Rattle.base.specs.Tests.{_∈_, pick, any, all, below}
 use Rattle.base.specs.Sets.{has}
-use Rattle.base.proofs.Tests.{same-test, dec-T, eq→eqb, neqb→ne, and-in, and-l, and-r, and-cong, or-l, or-r, or-out, imp-in, imp-out, any-in, any-out, all-in, all-out, any-cong, any-not-all, below-in, below-out}
+use Rattle.base.proofs.Tests.{same-test, dec-T, eq→eqb, neqb→ne, and-in, and-l, and-r, and-cong, or-l, or-r, or-out, imp-in, imp-out, any-in, any-out, all-in, all-out, any-cong, below-in, below-out}
 use Rattle.base.specs.Ballots.{valueOf}
 use Rattle.graph.specs.LearnerGraph.{LearnerGraph, isQuorum, safeWithout}
 use Rattle.graph.proofs.LearnerGraph.{quorum-cong, without-cong}
 use Rattle.protocol.specs.Ids.{Id, sameId, samePrevious}
-use Rattle.protocol.specs.Message.{Message, isProposal, is1b, is2a, tran, ballot, value, forks}
+use Rattle.protocol.specs.Message.{Message, is1b, is2a, ballot, value, forks}
 use Rattle.protocol.specs.Learners.{fresh, lrns}
 use Rattle.protocol.specs.WellFormed.{formed1b, formed2a}
 use Rattle.protocol.specs.Table.{Held, says, Table, at, heldId, heldSigner, heldPrevious, offered, places, Ordered, nodeBy, tree, reach}
-use Rattle.protocol.specs.Places.{is1bAt, is2aAt, ballotAt, valueAt, caughtAt, formed1bAt, formed2aAt, conAt, buriedAt, freshAt, lrnsAt}
+use Rattle.protocol.specs.Places.{is1bAt, is2aAt, ballotAt, valueAt, caughtAt, conAt, buriedAt, freshAt, lrnsAt}
 use Rattle.protocol.proofs.Ids.{sameId-law, samePrevious-law}
-use Rattle.protocol.proofs.Table.{tree-proposal, reach-is, reach-self, reach-le}
-use Rattle.protocol.proofs.Growth.{at-append, at-end, tree-append, reach-append, ordered-snoc}
-use Rattle.protocol.proofs.Loops.{any-beneath}
-use Rattle.protocol.proofs.Places.{is1b-at, is2a-at, ballotBy, ballot-at, forksHeld, forks-at, caught-at, formed1b-at}
-use Rattle.protocol.proofs.Places as law
+use Rattle.protocol.proofs.Table.{reach-self}
+use Rattle.protocol.proofs.Places.{forksHeld, forks-at, caught-at, formed1b-at}
 use Rattle.protocol.proofs.PlacesLearners.{con-at, buried-at, fresh-at, lrns-at, formed2a-at}
 use Rattle.scan.specs.PlaceSets.{inSet, meets}
-use Rattle.scan.specs.Arrays.{highest, isOffer, Beneath, isFork, isCaught, isVote, voteBallot, peaksOf, isBuried, isOpposed, isBarred, isBacker, backedBy, isCrowding}
+use Rattle.scan.specs.Arrays.{isOffer, Beneath, isFork, isCaught, isVote, voteBallot, peaksOf, isBuried, isOpposed, isBarred, isBacker, backedBy, isCrowding}
 use Rattle.derive.specs.Notes.{Known, Candidate, Told, Judged}
 use Rattle.base.proofs.Bits.{some-bit}
 use native.Mathlib.Nat.{pow-suc}
 use Rattle.scan.proofs.Membership.{has-zero}
 use Rattle.scan.proofs.Loops.{any-at}
 use Rattle.scan.proofs.Burying.{buried-by-peaks}
-use Rattle.derive.proofs.Growing.{new-message}
+use Rattle.derive.specs.Reached.{Reached}
+use Rattle.derive.proofs.Reaching as reaching
+use Rattle.derive.proofs.Reaching.{is-true, reached-of}
 
 -- ---- forks of records
 fork-signer : (x y : Held) → T (forksHeld x y) → heldSigner x ≡ heldSigner y
@@ -77,24 +76,9 @@ front : (r a b c d : Bool) → (r && a && b && c && d) ≡ (r && (a && b && c &&
 front true a b c d = refl
 front false a b c d = refl
 
-denied : (r s b o : Bool) → (r && not s && b && not o) ≡ not (not r || (s || not b || o))
-denied true true b o = refl
-denied true false true true = refl
-denied true false true false = refl
-denied true false false o = refl
-denied false s b o = refl
-
-not-not : (a : Bool) → not (not a) ≡ a
-not-not true = refl
-not-not false = refl
-
 and-true : (a b : Bool) → T a → (a && b) ≡ b
 and-true true b h = refl
 and-true false b h = absurd h
-
-is-true : (a : Bool) → T a → a ≡ true
-is-true true h = refl
-is-true false h = absurd h
 
 -- the middle test is read only where the two before it pass
 middle : (r a b b′ c d : Bool) → (T a → b ≡ b′) → (r && a && b && c && d) ≡ (r && a && b′ && c && d)
@@ -126,16 +110,15 @@ module _ (G : LearnerGraph) (t : Table) (kinds signers low high forkLow forkHigh
   abbrev u : Table
   u = t ++ new ∷ []
 
+  -- the places that it reaches, and its ballot: Reaching says the same of any notes that have as much
+  rd : Reached t kinds low high tops
+  rd = reached-of G t kinds signers low high forkLow forkHigh tops learners freshes forms kn
+
   ord : Ordered u
-  unfolding places
-  ord = ordered-snoc t new (kn .ordered) back
+  ord = reaching.ord t kinds low high tops ps rd id sig prev n size small back
 
   at-new : at u n ≡ new
-  at-new = ap (at u) (sym size) ∙ at-end t new
-
-  places-new : places (at u n) ≡ ps
-  unfolding places
-  places-new = ap places at-new
+  at-new = reaching.at-new t kinds low high tops ps rd id sig prev n size small back
 
   signer-new : heldSigner (at u n) ≡ sig
   unfolding heldSigner
@@ -144,19 +127,19 @@ module _ (G : LearnerGraph) (t : Table) (kinds signers low high forkLow forkHigh
   -- ---- the places before it
   module _ (j : ℕ) (l : j < n) where
     at-old : at u j ≡ at t j
-    at-old = at-append t (new ∷ []) j (omega arith)
+    at-old = reaching.at-old t kinds low high tops ps rd id sig prev n size small back j l
 
     old : tree u j ≡ tree t j
-    old = tree-append t (new ∷ []) (kn .ordered) j (omega arith)
+    old = reaching.old t kinds low high tops ps rd id sig prev n size small back j l
 
     kind-is : isOffer kinds j ≡ offered (at u j)
-    kind-is = kn .kind j (omega arith) ∙ ap offered (sym at-old)
+    kind-is = reaching.kind-is t kinds low high tops ps rd id sig prev n size small back j l
 
     signer-is : getD signers j 0 ≡ heldSigner (at u j)
     signer-is = kn .signer j (omega arith) ∙ ap heldSigner (sym at-old)
 
     top-is : getD tops j 0 ≡ ballotAt u j
-    top-is = kn .noted j (omega arith) .ballot ∙ ap ballot (sym old)
+    top-is = reaching.top-is t kinds low high tops ps rd id sig prev n size small back j l
 
     first-is : eqb (getD forms j 0) 1 ≡ is1bAt u j
     first-is = kn .noted j (omega arith) .first ∙ ap is1b (sym old)
@@ -171,44 +154,18 @@ module _ (G : LearnerGraph) (t : Table) (kinds signers low high forkLow forkHigh
     freshly-is a la one =
         kn .noted j (omega arith) .freshly a la (subst (λ (m : Message). T (is1b m)) old one) ∙ ap (λ (m : Message). fresh G a m) (sym old)
 
-  highest-is : (r : List ℕ) → ((k : ℕ) → k ∈ r → k < n) → highest tops r ≡ law.highest (ballotAt u) r
-  unfolding highest law.highest
-  highest-is [] h = refl
-  highest-is (k ∷ r) h = ap₂ max (top-is k (h k (List·Memᴰ·head refl))) (highest-is r (λ j m. h j (List·Memᴰ·tail m)))
-
   module _ (lo hi bal : ℕ) (o : Bool) (bt : Beneath low high tops kinds ps lo hi bal o) where
-    earlier : (k : ℕ) → k ∈ ps → k < n
-    earlier k m = let e = back k m in omega arith
-
     beneath-told : (j : ℕ) → j < n → inSet lo hi j ≡ reach u n j
-    beneath-told j l =
-        bt .set j (omega arith)
-        ∙ any-cong (λ k. inSet (getD low k 0) (getD high k 0) j) (λ k. reach u k j) ps
-        (λ k m. kn .noted k (back k m) .reaches j (omega arith) ∙ sym (reach-append t (new ∷ []) (kn .ordered) k j (back k m)))
-        ∙ sym (reach-is u ord n j ∙ ap₂ _||_ (ne-eqb n j (λ q. omega arith)) (ap (any (λ k. reach u k j)) places-new))
-
-    none-told : (j : ℕ) → n ≤ j → j < 128 → T (inSet lo hi j) → ⊥
-    none-told j l g h =
-        let (k, m, q) = any-out (λ k. inSet (getD low k 0) (getD high k 0) j) ps (subst T (bt .set j g) h) in
-        let r : T (reach t k j) = subst T (kn .noted k (back k m) .reaches j g) q in
-        let e = earlier k m in
-        let d = reach-le t (kn .ordered) k j r in
-        omega arith
+    beneath-told = reaching.beneath-told t kinds low high tops ps rd id sig prev n size small back lo hi bal o bt
 
     ballot-told : bal ≡ ballotAt u n
-    unfolding ballotBy
-    ballot-told = bt .top ∙ highest-is ps earlier ∙ sym (ballot-at u ord n ∙ ap (ballotBy (ballotAt u)) at-new)
-
-    offer-told : o ≡ any (λ k. offered (at u k)) ps
-    offer-told = bt .offer ∙ any-cong (isOffer kinds) (λ k. offered (at u k)) ps (λ k m. kind-is k (earlier k m))
+    ballot-told = reaching.ballot-told t kinds low high tops ps rd id sig prev n size small back lo hi bal o bt
 
     first-told : is1bAt u n ≡ o
-    unfolding offered places
-    first-told = is1b-at u ord n ∙ ap (λ (r : Held). not (offered r) && any (λ k. offered (at u k)) (places r)) at-new ∙ sym offer-told
+    first-told = reaching.first-told t kinds low high tops ps rd id sig prev n size small back lo hi bal o bt
 
     second-told : is2aAt u n ≡ not o
-    unfolding offered places
-    second-told = is2a-at u ord n ∙ ap (λ (r : Held). not (offered r) && not (any (λ k. offered (at u k)) (places r))) at-new ∙ ap not (sym offer-told)
+    second-told = reaching.second-told t kinds low high tops ps rd id sig prev n size small back lo hi bal o bt
 
     -- ---- lrns
     module _ (mask : ℕ) (k : ℕ) (hk : k ≡ pick (not o) (G .learners) 0)
@@ -368,30 +325,8 @@ module _ (G : LearnerGraph) (t : Table) (kinds signers low high forkLow forkHigh
             ∙ sym (fresh-at u G ord n n (omega arith) one a)
 
     -- ---- a new message is judged
-    message-is : tree u n ≡ nodeBy (tree t) new
-    unfolding places
-    message-is = ap (tree u) (sym size) ∙ new-message t new (kn .ordered) back
-
-    -- a proposal beneath
-    grounded-told : any (λ j. inSet lo hi j && isOffer kinds j) (below n) ≡ any isProposal (tran (tree u n))
-    unfolding offered
-    grounded-told =
-        any-cong (λ j. inSet lo hi j && isOffer kinds j) (λ j. reach u n j && isProposal (tree u j)) (below n)
-        (λ j m. ap₂ _&&_ (beneath-told j (below-out n m)) (kind-is j (below-out n m) ∙ sym (tree-proposal u j)))
-        ∙ sym (any-beneath u ord n isProposal (subst (λ (x : Bool). T (not x)) (sym (tree-proposal u n ∙ ap offered at-new)) tt) n (omega arith))
-
-    -- place j does not crowd it
     abbrev alone : ℕ → Bool
-    alone j = not (reach u n j) || (sameId (heldId (at u j)) (heldId (at u n)) || not (eqb (ballotAt u j) (ballotAt u n)) || offered (at u j))
-
-    judged : (grounded first second : Bool) → grounded ≡ any (λ j. inSet lo hi j && isOffer kinds j) (below n) → first ≡ formed1bAt u n → second ≡ formed2aAt u G n
-        → Judged G (nodeBy (tree t) new) (record { grounded = grounded; formed1b = first; formed2a = second })
-    judged grounded first second hg h₁ h₂ =
-        record {
-          grounded = hg ∙ grounded-told ∙ ap (λ (m : Message). any isProposal (tran m)) message-is;
-          formed1 = h₁ ∙ ap formed1b message-is;
-          formed2 = h₂ ∙ ap (formed2a G) message-is;
-        }
+    alone = reaching.alone t kinds low high tops ps rd id sig prev n size small back lo hi bal o bt
 
     -- a 2a: whether it has learners
     module _ (mask : ℕ) (hl : (q : ℕ) → has mask q ≡ any (λ a. isQuorum G a (backedBy forms freshes tops signers n lo hi bal a) && eqb a q) (below (G .learners))) (two : o ≡ false) where
@@ -416,7 +351,7 @@ module _ (G : LearnerGraph) (t : Table) (kinds signers low high forkLow forkHigh
       pub second-judged : (grounded : Bool) → grounded ≡ any (λ j. inSet lo hi j && isOffer kinds j) (below n)
           → Judged G (nodeBy (tree t) new) (record { grounded = grounded; formed1b = true; formed2a = not (eqb mask 0) })
       second-judged grounded hg =
-          judged grounded true (not (eqb mask 0)) hg (sym (formed1b-at u ord n n (omega arith) ∙ ap (λ (z : Bool). not z || all alone (below n)) (first-told ∙ two)))
+          reaching.judged t kinds low high tops ps rd id sig prev n size small back lo hi bal o bt G grounded true (not (eqb mask 0)) hg (sym (formed1b-at u ord n n (omega arith) ∙ ap (λ (z : Bool). not z || all alone (below n)) (first-told ∙ two)))
           (learners-told ∙ sym (formed2a-at u G n ∙ ap (λ (z : Bool). not z || any (lrnsAt u G n) (below (G .learners))) (second-told ∙ ap not two)))
 
     -- ---- a message that a name and a link tell from those held
@@ -573,7 +508,7 @@ module _ (G : LearnerGraph) (t : Table) (kinds signers low high forkLow forkHigh
       told fl fh others mask against free learned firsts seconds v form few hf ho hm hk hv ha hr hs hl hform =
           record {
             reaches = beneath-told;
-            none = none-told;
+            none = reaching.none-told t kinds low high tops ps rd id sig prev n size small back lo hi bal o bt;
             forking = forking-told fl fh hf;
             ballot = ballot-told;
             first = ap (λ (x : ℕ). eqb x 1) hform ∙ firsts-form o ∙ sym first-told;
@@ -595,23 +530,7 @@ module _ (G : LearnerGraph) (t : Table) (kinds signers low high forkLow forkHigh
           seconds-form false = refl
 
       -- a 1b: whether another message crowds it
-      crowded-told : any (isCrowding kinds names tops lo hi name bal) (below n) ≡ not (all alone (below n))
-      unfolding heldId
-      crowded-told =
-          any-cong (isCrowding kinds names tops lo hi name bal) (λ j. not (alone j)) (below n) (λ j m. step j (below-out n m)) ∙ any-not-all (λ j. not (alone j)) alone (below n) (λ j. refl)
-        where
-          same : (j : ℕ) (l : j < n) → eqb (getD names j 0) name ≡ sameId (heldId (at u j)) (heldId (at u n))
-          same j l = id-is j l ∙ ap (λ (r : Held). sameId (heldId (at u j)) (heldId r)) (sym at-new)
-
-          step : (j : ℕ) (l : j < n) → isCrowding kinds names tops lo hi name bal j ≡ not (alone j)
-          step j l =
-              (λ e. beneath-told j l e && not (same j l e) && eqb (top-is j l e) (ballot-told e) && not (kind-is j l e))
-              ∙ denied (reach u n j) (sameId (heldId (at u j)) (heldId (at u n))) (eqb (ballotAt u j) (ballotAt u n)) (offered (at u j))
-
       pub first-judged : (crowded grounded : Bool) → crowded ≡ any (isCrowding kinds names tops lo hi name bal) (below n)
           → grounded ≡ any (λ j. inSet lo hi j && isOffer kinds j) (below n) → o ≡ true
           → Judged G (nodeBy (tree t) new) (record { grounded = grounded; formed1b = not crowded; formed2a = true })
-      first-judged crowded grounded hc hg one =
-          judged grounded (not crowded) true hg
-          (ap not (hc ∙ crowded-told) ∙ not-not (all alone (below n)) ∙ sym (formed1b-at u ord n n (omega arith) ∙ ap (λ (z : Bool). not z || all alone (below n)) (first-told ∙ one)))
-          (sym (formed2a-at u G n ∙ ap (λ (z : Bool). not z || any (lrnsAt u G n) (below (G .learners))) (second-told ∙ ap not one)))
+      first-judged crowded grounded hc hg one = reaching.first-judged t kinds low high tops ps rd id sig prev n size small back lo hi bal o bt G names name (λ j l. id-is j l) crowded grounded hc hg one

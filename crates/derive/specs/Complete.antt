@@ -3,13 +3,10 @@ use mathlib.Core.List.{List}
 use Prim.Native.Nat.{ℕ}
 use Rattle.graph.specs.LearnerGraph.{LearnerGraph}
 use Rattle.scan.specs.Arrays.{Named, IdsIndexed}
-use Rattle.derive.specs.declared.Notes.{Notes}
 use Rattle.derive.specs.Records.{tableIn}
-use Rattle.derive.specs.Notes.{Known, Marks}
+use Rattle.derive.specs.Lent.{Notes, KnownIn, MarksIn}
 
 abbrev pub Complete : LearnerGraph → List ℕ → List ℕ → List ℕ → List ℕ → List ℕ → List ℕ → List ℕ → ℕ → Notes → Type 0
 Complete G ids kinds signers ballots previous counts references n x =
-    (Named ids n (x .names)
-    × Known G (tableIn ids kinds signers ballots previous counts references n) kinds signers (x .low) (x .high) (x .forklow) (x .forkhigh) (x .tops) (x .learners) (x .fresh) (x .forms))
-    × (IdsIndexed ids n (x .idlow) (x .idhigh)
-    × Marks n kinds signers (x .names) previous (x .forklow) (x .forkhigh) (x .tops) (x .forms) (x .keylow) (x .keyhigh) (x .forked .low) (x .forked .high))
+    (Named ids n (x .names) × KnownIn G (tableIn ids kinds signers ballots previous counts references n) kinds signers x)
+    × (IdsIndexed ids n (x .idlow) (x .idhigh) × MarksIn n kinds signers previous x)

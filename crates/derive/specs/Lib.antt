@@ -4,5 +4,9 @@ pub mod Notes
 pub mod Records
 -- What the report asks of the notes
 pub mod Deciding
+-- The notes in two lent arrays
+pub mod Lent
 -- The notes of a round's places are right, all of them
 pub mod Complete
+-- What the places reach, and their ballots
+pub mod Reached

@@ -1,7 +1,7 @@
 -- What is noted of a held message, and what is worked out for a message from the notes of the places before it, in the terms of the
 -- definitions (protocol/specs). The table t holds the places before it; a message that is worked out is one more record at its end.
 use mathlib.Core.Path.{_≡_}
-use mathlib.Core.Bool.{not, _&&_}
+use mathlib.Core.Bool.{Bool, true, not, _&&_}
 use mathlib.Core.Option.{Option}
 use mathlib.Core.List.{List}
 use Prim.Native.Nat.{ℕ, _+_, _/_, _%_, _≤_, _<_}
@@ -68,6 +68,10 @@ pub record Judged (G : LearnerGraph) (m : Message) (r : Note) : Type 0 where
   pub grounded : r .grounded ≡ any isProposal (tran m)
   pub formed1 : r .formed1b ≡ formed1b m
   pub formed2 : r .formed2a ≡ formed2a G m
+
+-- of a 1b: a proposal lies beneath it, and it is no 2a
+abbrev pub firstNote : Bool → Note
+firstNote formed = record { grounded = true; formed1b = formed; formed2a = true }
 
 -- ---- each of the first n places that forks with one before it is in the set
 abbrev pub Marked : ℕ → List ℕ → List ℕ → ℕ → ℕ → Type 0

@@ -37,6 +37,11 @@ pub record Fit (n : ℕ) (kinds previous counts references : List ℕ) : Type 0 
   pub named : (p : ℕ) → p < n → (getD previous p 0 ≡ 255) ⊎ (getD previous p 0 < n)
   pub back : (p : ℕ) → p < n → isOffer kinds p ≡ false → (j : ℕ) → j ∈ referencesIn counts references p → j < p
 
+-- the part of it that is of references
+abbrev pub Backward : ℕ → List ℕ → List ℕ → List ℕ → Type 0
+Backward n kinds counts references =
+    (n ≤ 128) × (((p : ℕ) → p < n → getD counts p 0 ≤ 128) × ((p : ℕ) → p < n → isOffer kinds p ≡ false → (j : ℕ) → j ∈ referencesIn counts references p → j < p))
+
 -- ---- the lengths of the arrays
 pub record Lengths (ids kinds signers ballots previous counts references : List ℕ) : Type 0 where
   pub idsFit : length ids ≡ 4096

@@ -1,18 +1,20 @@
 // One place more: a message that is taken leaves the notes of the places before it as they are, so that it is noted without another pass.
-use crate::Notes;
+use crate::ID_LOW_AT;
+use crate::KEY_LOW_AT;
+use crate::LEARNERS_AT;
 use crate::pass::extended;
 use graph::Mask;
-use scan::names::id_key;
-use scan::names::name_of;
-use scan::sets::with_place;
+use scan::names::name_place;
 ghost use Prim.Native.Nat.{suc, _≤_};
 ghost use Rattle.graph.specs.Held.{heldGraph, Sized};
 ghost use Rattle.derive.specs.Records.{Fit, Lengths};
+ghost use Rattle.derive.specs.Lent.{Lent, notesIn};
 ghost use Rattle.derive.specs.Complete.{Complete};
 
 // The notes of one place more than the n that they have. The n places fit without it: none of them names it as its previous message.
 pub fn grown<'a>(
-    mut notes: Notes,
+    words: &mut [u64],
+    octets: &mut [u8],
     lists: &'a [u8],
     masks: &'a [Mask],
     ids: &'a [u8],
@@ -25,21 +27,21 @@ pub fn grown<'a>(
     acceptors: u8,
     l: usize,
     n: usize,
-) -> Notes
+)
     requires { ⌜ (acceptors ≤ 32) × ((l ≤ 8) × (Sized (now lists) (now masks) × (Fit n (now kinds) (now previous) (now counts) (now references) × (Fit (suc n) (now kinds) (now previous) (now counts) (now references)
-        × (Lengths (now ids) (now kinds) (now signers) (now ballots) (now previous) (now counts) (now references)
-        × Complete (heldGraph acceptors l (now lists) (now masks)) (now ids) (now kinds) (now signers) (now ballots) (now previous) (now counts) (now references) n notes))))) ⌝ }
-    ensures { λ r. ⌜ Complete (heldGraph acceptors l (now (lists .entry)) (now (masks .entry))) (now (ids .entry)) (now (kinds .entry)) (now (signers .entry)) (now (ballots .entry)) (now (previous .entry)) (now (counts .entry)) (now (references .entry)) (suc n) r ⌝ }
+        × (Lengths (now ids) (now kinds) (now signers) (now ballots) (now previous) (now counts) (now references) × (Lent (now words) (now octets)
+        × Complete (heldGraph acceptors l (now lists) (now masks)) (now ids) (now kinds) (now signers) (now ballots) (now previous) (now counts) (now references) n (notesIn (now words) (now octets)))))))) ⌝ }
+    ensures { λ _. ⌜ Complete (heldGraph acceptors l (now (lists .entry)) (now (masks .entry))) (now (ids .entry)) (now (kinds .entry)) (now (signers .entry)) (now (ballots .entry)) (now (previous .entry)) (now (counts .entry)) (now (references .entry)) (suc n) (notesIn (now (words .exit)) (now (octets .exit))) ⌝ }
 {
-    let from = 32 * n;
-    let name = name_of(ids, n, &ids[from..from + 32], &notes.idlow, &notes.idhigh);
-    notes.names[n] = name as u8;
-    let k = id_key(ids, from);
-    let s = with_place(notes.idlow[k], notes.idhigh[k], n, true);
-    notes.idlow[k] = s.low;
-    notes.idhigh[k] = s.high;
+    let _name = name_place(
+        ids,
+        n,
+        &mut octets[0..LEARNERS_AT],
+        &mut words[ID_LOW_AT..KEY_LOW_AT],
+    );
     extended(
-        notes,
+        words,
+        octets,
         lists,
         masks,
         kinds,
@@ -52,5 +54,5 @@ pub fn grown<'a>(
         l,
         n,
         n + 1,
-    )
+    );
 }

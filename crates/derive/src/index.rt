@@ -6,9 +6,10 @@ use scan::sets::common;
 use scan::sets::put_place;
 ghost use mathlib.Core.Path.{_≡_};
 ghost use mathlib.Core.Bool.{_&&_};
-ghost use Prim.Native.Nat.{ℕ, _<_};
+ghost use Prim.Native.Nat.{ℕ, _+_, _<_};
 ghost use lib.Dec.{T};
 ghost use lib.ListN.{length, getD};
+ghost use Rattle.base.specs.Bytes.{part};
 ghost use Rattle.scan.specs.PlaceSets.{inSet};
 ghost use Rattle.derive.specs.Notes.{keys, signerKey, linkKey, ballotKey, formKey, kindKey, Filed, Put, Backing, Walked};
 
@@ -114,22 +115,13 @@ pub fn walks_for<'a>(
 }
 
 // Place j put into the sets of its keys.
-pub fn mark(
-    low: &mut [u64],
-    high: &mut [u64],
-    kind: u8,
-    signer: u8,
-    link: u8,
-    ballot: u64,
-    form: u8,
-    j: usize,
-)
-    requires { ⌜ (j < 128) × ((length (now low) ≡ keys) × (length (now high) ≡ keys)) ⌝ }
-    ensures { λ _. ⌜ Put (now (low .entry)) (now (high .entry)) (now (low .exit)) (now (high .exit)) kind signer link ballot form j ⌝ }
+pub fn mark(sets: &mut [u64], kind: u8, signer: u8, link: u8, ballot: u64, form: u8, j: usize)
+    requires { ⌜ (j < 128) × (length (now sets) ≡ keys + keys) ⌝ }
+    ensures { λ _. ⌜ Put (part keys (now (sets .entry)) 0) (part keys (now (sets .entry)) keys) (part keys (now (sets .exit)) 0) (part keys (now (sets .exit)) keys) kind signer link ballot form j ⌝ }
 {
-    put_place(low, high, signer_key(signer), j);
-    put_place(low, high, link_key(link), j);
-    put_place(low, high, ballot_key(ballot), j);
-    put_place(low, high, form_key(form), j);
-    put_place(low, high, kind_key(kind), j);
+    put_place(sets, KEYS, signer_key(signer), j);
+    put_place(sets, KEYS, link_key(link), j);
+    put_place(sets, KEYS, ballot_key(ballot), j);
+    put_place(sets, KEYS, form_key(form), j);
+    put_place(sets, KEYS, kind_key(kind), j);
 }

@@ -1,9 +1,8 @@
 // What follows from the messages that a round holds: for each place what lies beneath it, its ballot, whether it is a 1b or a 2a, for which
 // learners it is fresh or counts, and whether it is well-formed. One pass over the places, each from those before it; the arrays are lent.
-use crate::index::KEYS;
-use scan::ID_KEYS;
 use scan::Places;
 
+pub mod first;
 pub mod grow;
 pub mod index;
 pub mod pass;
@@ -32,28 +31,41 @@ pub struct Note {
     pub formed2a: bool,
 }
 
-// The notes of the places of a round.
-pub struct Notes {
-    // The lowest place with the id of each place; at 255, 255.
-    pub names: [u8; 256],
-    // The places that each place reaches, itself among them, and those before it that fork with it.
-    pub low: [u64; 128],
-    pub high: [u64; 128],
-    pub forklow: [u64; 128],
-    pub forkhigh: [u64; 128],
-    // Its ballot, its learners, those that it is fresh for, and 0 for a proposal, 1 for a 1b, 2 for a 2a.
-    pub tops: [u64; 128],
-    pub learners: [u8; 128],
-    pub fresh: [u8; 128],
-    pub forms: [u8; 128],
-    // The places by the key of their ids, and by the keys of the index.
-    pub idlow: [u64; ID_KEYS],
-    pub idhigh: [u64; ID_KEYS],
-    pub keylow: [u64; KEYS],
-    pub keyhigh: [u64; KEYS],
-    // The places that fork with one before them.
-    pub forked: Places,
-}
+// The notes of the places of a round stand in two lent arrays. In the words, from 0 on: the places that each place reaches, itself among them, as the
+// low words of these sets and then the high ones.
+pub const HIGH_AT: usize = 128;
+
+// Those before it that fork with it.
+pub const FORK_LOW_AT: usize = 256;
+
+pub const FORK_HIGH_AT: usize = 384;
+
+// Its ballot.
+pub const TOPS_AT: usize = 512;
+
+// The places by the key of their ids, and by the keys of the index.
+pub const ID_LOW_AT: usize = 640;
+
+pub const ID_HIGH_AT: usize = 672;
+
+pub const KEY_LOW_AT: usize = 704;
+
+pub const KEY_HIGH_AT: usize = 776;
+
+// The places that fork with one before them: one set.
+pub const FORKED_AT: usize = 848;
+
+pub const WORDS: usize = 850;
+
+// In the bytes, from 0 on: the lowest place with the id of each place, and at 255, 255. Then its learners, those that it is fresh for, and 0 for a
+// proposal, 1 for a 1b, 2 for a 2a.
+pub const LEARNERS_AT: usize = 256;
+
+pub const FRESH_AT: usize = 384;
+
+pub const FORMS_AT: usize = 512;
+
+pub const OCTETS: usize = 640;
 
 // The places that are asked for a message: whether they fork with it, whether one that it reaches was caught, whether one is a vote, a vote of its
 // own signer, or a 1b of its ballot.

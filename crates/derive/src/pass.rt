@@ -1,8 +1,18 @@
 // The pass over the places of a round, in order: each is worked out from the notes of those before it, and its notes are put down.
+use crate::FORK_HIGH_AT;
+use crate::FORK_LOW_AT;
+use crate::FORKED_AT;
+use crate::FORMS_AT;
+use crate::FRESH_AT;
+use crate::HIGH_AT;
+use crate::ID_LOW_AT;
+use crate::KEY_HIGH_AT;
+use crate::KEY_LOW_AT;
+use crate::LEARNERS_AT;
 use crate::Note;
-use crate::Notes;
+use crate::OCTETS;
+use crate::TOPS_AT;
 use crate::Worked;
-use crate::index::KEYS;
 use crate::index::OFFERS;
 use crate::index::backers_of;
 use crate::index::ballot_key;
@@ -17,7 +27,7 @@ use scan::beneath::is_grounded;
 use scan::beneath::under;
 use scan::learners::learners_for;
 use scan::names::name_of;
-use scan::names::names_of;
+use scan::names::name_places;
 use scan::sets::with_place;
 ghost use mathlib.Core.Path.{_≡_};
 ghost use mathlib.Core.Logic.{_⊎_};
@@ -30,6 +40,8 @@ ghost use Rattle.protocol.specs.Table.{says, nodeBy, tree};
 ghost use Rattle.scan.specs.Arrays.{Whole, Named, idKeys, IdsIndexed};
 ghost use Rattle.derive.specs.Records.{namedIn, tableIn, Fit, Lengths};
 ghost use Rattle.derive.specs.Notes.{NotedBy, Known, Judged, Marks, Ready};
+ghost use Rattle.derive.specs.Lent.{wordsLen, Lent, notesIn, KnownIn, MarksIn, withNote, FiledIn};
+ghost use Rattle.derive.specs.Complete.{Complete};
 
 // The held message at place p, with the place itself among those that it reaches.
 fn note_held<'a>(
@@ -118,9 +130,55 @@ fn note_held<'a>(
     }
 }
 
+// What was worked out for the held message at place p is put down.
+fn note_down(words: &mut [u64], octets: &mut [u8], r: Worked, p: usize)
+    requires { ⌜ (p < 128) × Lent (now words) (now octets) ⌝ }
+    ensures { λ _. ⌜ notesIn (now (words .exit)) (now (octets .exit)) ≡ withNote (notesIn (now (words .entry)) (now (octets .entry))) r p ⌝ }
+{
+    let b = r.beneath;
+    let f = r.forks;
+    words[p] = b.low;
+    words[HIGH_AT + p] = b.high;
+    words[FORK_LOW_AT + p] = f.low;
+    words[FORK_HIGH_AT + p] = f.high;
+    words[TOPS_AT + p] = r.ballot;
+    octets[LEARNERS_AT + p] = r.learners;
+    octets[FRESH_AT + p] = r.fresh;
+    octets[FORMS_AT + p] = r.form;
+}
+
+// Place p is put into the sets of its keys, and among the places that fork with one before them where it does.
+fn file_place(
+    words: &mut [u64],
+    kind: u8,
+    signer: u8,
+    link: u8,
+    ballot: u64,
+    form: u8,
+    forks: bool,
+    p: usize,
+)
+    requires { ⌜ (p < 128) × (length (now words) ≡ wordsLen) ⌝ }
+    ensures { λ _. ⌜ ((b : List ℕ) → FiledIn (notesIn (now (words .entry)) b) (notesIn (now (words .exit)) b) kind signer link ballot form forks p) ⌝ }
+{
+    mark(
+        &mut words[KEY_LOW_AT..FORKED_AT],
+        kind,
+        signer,
+        link,
+        ballot,
+        form,
+        p,
+    );
+    let s = with_place(words[FORKED_AT], words[FORKED_AT + 1], p, forks);
+    words[FORKED_AT] = s.low;
+    words[FORKED_AT + 1] = s.high;
+}
+
 // The notes of n places, from those of the first `from`. The places have their names.
 pub fn extended<'a>(
-    mut notes: Notes,
+    words: &mut [u64],
+    octets: &mut [u8],
     lists: &'a [u8],
     masks: &'a [Mask],
     kinds: &'a [u8],
@@ -133,20 +191,24 @@ pub fn extended<'a>(
     l: usize,
     from: usize,
     n: usize,
-) -> Notes
+)
     requires { ⌜ (acceptors ≤ 32) × ((l ≤ 8) × (Sized (now lists) (now masks) × (Fit n (now kinds) (now previous) (now counts) (now references)
         × (Whole (now kinds) × (Whole (now signers) × (Whole (now ballots) × (Whole (now previous) × (Whole (now counts) × ((length (now references) ≡ 16384)
-        × ((from ≤ n) × Marks from (now kinds) (now signers) (notes .names) (now previous) (notes .forklow) (notes .forkhigh) (notes .tops) (notes .forms) (notes .keylow) (notes .keyhigh) (notes .forked .low) (notes .forked .high))))))))))) ⌝ }
-    ensures { λ r. ⌜ (r .names ≡ notes .names) × ((r .idlow ≡ notes .idlow) × (r .idhigh ≡ notes .idhigh)) ⌝ }
-    ensures { λ r. ⌜ Marks n (now (kinds .entry)) (now (signers .entry)) (r .names) (now (previous .entry)) (r .forklow) (r .forkhigh) (r .tops) (r .forms) (r .keylow) (r .keyhigh) (r .forked .low) (r .forked .high)
-        × ((ids : List ℕ) → Named ids n (notes .names)
-        → Known (heldGraph acceptors l (now (lists .entry)) (now (masks .entry))) (tableIn ids (now (kinds .entry)) (now (signers .entry)) (now (ballots .entry)) (now (previous .entry)) (now (counts .entry)) (now (references .entry)) from) (now (kinds .entry)) (now (signers .entry)) (notes .low) (notes .high) (notes .forklow) (notes .forkhigh) (notes .tops) (notes .learners) (notes .fresh) (notes .forms)
-        → Known (heldGraph acceptors l (now (lists .entry)) (now (masks .entry))) (tableIn ids (now (kinds .entry)) (now (signers .entry)) (now (ballots .entry)) (now (previous .entry)) (now (counts .entry)) (now (references .entry)) n) (now (kinds .entry)) (now (signers .entry)) (r .low) (r .high) (r .forklow) (r .forkhigh) (r .tops) (r .learners) (r .fresh) (r .forms)) ⌝ }
+        × ((from ≤ n) × (Lent (now words) (now octets) × MarksIn from (now kinds) (now signers) (now previous) (notesIn (now words) (now octets))))))))))))) ⌝ }
+    ensures same { λ _. ⌜ (notesIn (now (words .exit)) (now (octets .exit)) .names ≡ notesIn (now (words .entry)) (now (octets .entry)) .names)
+        × ((notesIn (now (words .exit)) (now (octets .exit)) .idlow ≡ notesIn (now (words .entry)) (now (octets .entry)) .idlow)
+        × (notesIn (now (words .exit)) (now (octets .exit)) .idhigh ≡ notesIn (now (words .entry)) (now (octets .entry)) .idhigh)) ⌝ }
+    ensures marked { λ _. ⌜ MarksIn n (now (kinds .entry)) (now (signers .entry)) (now (previous .entry)) (notesIn (now (words .exit)) (now (octets .exit))) ⌝ }
+    ensures known { λ _. ⌜ ((ids : List ℕ) → Named ids n (notesIn (now (words .entry)) (now (octets .entry)) .names)
+        → KnownIn (heldGraph acceptors l (now (lists .entry)) (now (masks .entry))) (tableIn ids (now (kinds .entry)) (now (signers .entry)) (now (ballots .entry)) (now (previous .entry)) (now (counts .entry)) (now (references .entry)) from) (now (kinds .entry)) (now (signers .entry)) (notesIn (now (words .entry)) (now (octets .entry)))
+        → KnownIn (heldGraph acceptors l (now (lists .entry)) (now (masks .entry))) (tableIn ids (now (kinds .entry)) (now (signers .entry)) (now (ballots .entry)) (now (previous .entry)) (now (counts .entry)) (now (references .entry)) n) (now (kinds .entry)) (now (signers .entry)) (notesIn (now (words .exit)) (now (octets .exit)))) ⌝ }
 {
-    let mut keylow = notes.keylow;
-    let mut keyhigh = notes.keyhigh;
     let mut p: usize = from;
     while p < n {
+        let forked = Places {
+            low: words[FORKED_AT],
+            high: words[FORKED_AT + 1],
+        };
         let r = note_held(
             lists,
             masks,
@@ -156,56 +218,46 @@ pub fn extended<'a>(
             previous,
             counts,
             references,
-            &notes.names,
-            &notes.low,
-            &notes.high,
-            &notes.forklow,
-            &notes.forkhigh,
-            &notes.tops,
-            &notes.learners,
-            &notes.fresh,
-            &notes.forms,
-            &keylow,
-            &keyhigh,
+            &octets[0..LEARNERS_AT],
+            &words[0..HIGH_AT],
+            &words[HIGH_AT..FORK_LOW_AT],
+            &words[FORK_LOW_AT..FORK_HIGH_AT],
+            &words[FORK_HIGH_AT..TOPS_AT],
+            &words[TOPS_AT..ID_LOW_AT],
+            &octets[LEARNERS_AT..FRESH_AT],
+            &octets[FRESH_AT..FORMS_AT],
+            &octets[FORMS_AT..OCTETS],
+            &words[KEY_LOW_AT..KEY_HIGH_AT],
+            &words[KEY_HIGH_AT..FORKED_AT],
             acceptors,
             l,
             n,
             p,
-            notes.forked,
+            forked,
         );
-        let b = r.beneath;
+        note_down(words, octets, r, p);
         let f = r.forks;
-        notes.low[p] = b.low;
-        notes.high[p] = b.high;
-        notes.forklow[p] = f.low;
-        notes.forkhigh[p] = f.high;
-        notes.tops[p] = r.ballot;
-        notes.learners[p] = r.learners;
-        notes.fresh[p] = r.fresh;
-        notes.forms[p] = r.form;
+        let forks = (f.low != 0) | (f.high != 0);
         let at = size(previous[p]);
-        let link = notes.names[at];
-        mark(
-            &mut keylow,
-            &mut keyhigh,
+        let link = octets[at];
+        file_place(
+            words,
             kinds[p],
             signers[p],
             link,
             r.ballot,
             r.form,
+            forks,
             p,
         );
-        let old = notes.forked;
-        notes.forked = with_place(old.low, old.high, p, (f.low != 0) | (f.high != 0));
         p += 1;
     }
-    notes.keylow = keylow;
-    notes.keyhigh = keyhigh;
-    notes
 }
 
-// The notes of the first n places of a round.
+// The notes of the first n places of a round, whatever stood in the arrays.
 pub fn work_out<'a>(
+    words: &mut [u64],
+    octets: &mut [u8],
     lists: &'a [u8],
     masks: &'a [Mask],
     ids: &'a [u8],
@@ -218,47 +270,20 @@ pub fn work_out<'a>(
     acceptors: u8,
     l: usize,
     n: usize,
-) -> Notes
+)
     requires { ⌜ (acceptors ≤ 32) × ((l ≤ 8) × (Sized (now lists) (now masks) × (Fit n (now kinds) (now previous) (now counts) (now references)
-        × Lengths (now ids) (now kinds) (now signers) (now ballots) (now previous) (now counts) (now references)))) ⌝ }
-    ensures { λ r. ⌜ Named (now (ids .entry)) n (r .names)
-        × Known (heldGraph acceptors l (now (lists .entry)) (now (masks .entry))) (tableIn (now (ids .entry)) (now (kinds .entry)) (now (signers .entry)) (now (ballots .entry)) (now (previous .entry)) (now (counts .entry)) (now (references .entry)) n) (now (kinds .entry)) (now (signers .entry)) (r .low) (r .high) (r .forklow) (r .forkhigh) (r .tops) (r .learners) (r .fresh) (r .forms) ⌝ }
-    ensures { λ r. ⌜ IdsIndexed (now (ids .entry)) n (r .idlow) (r .idhigh)
-        × Marks n (now (kinds .entry)) (now (signers .entry)) (r .names) (now (previous .entry)) (r .forklow) (r .forkhigh) (r .tops) (r .forms) (r .keylow) (r .keyhigh) (r .forked .low) (r .forked .high) ⌝ }
+        × (Lengths (now ids) (now kinds) (now signers) (now ballots) (now previous) (now counts) (now references) × Lent (now words) (now octets))))) ⌝ }
+    ensures { λ _. ⌜ Complete (heldGraph acceptors l (now (lists .entry)) (now (masks .entry))) (now (ids .entry)) (now (kinds .entry)) (now (signers .entry)) (now (ballots .entry)) (now (previous .entry)) (now (counts .entry)) (now (references .entry)) n (notesIn (now (words .exit)) (now (octets .exit))) ⌝ }
 {
-    let named = names_of(ids, n);
-    let names = named.names;
-    let idlow = named.key_low;
-    let idhigh = named.key_high;
-    let low = [0u64; 128];
-    let high = [0u64; 128];
-    let forklow = [0u64; 128];
-    let forkhigh = [0u64; 128];
-    let tops = [0u64; 128];
-    let learners = [0u8; 128];
-    let fresh = [0u8; 128];
-    let forms = [0u8; 128];
-    let keylow = [0u64; KEYS];
-    let keyhigh = [0u64; KEYS];
-    let forked = Places { low: 0, high: 0 };
-    let notes = Notes {
-        names,
-        low,
-        high,
-        forklow,
-        forkhigh,
-        tops,
-        learners,
-        fresh,
-        forms,
-        idlow,
-        idhigh,
-        keylow,
-        keyhigh,
-        forked,
-    };
+    name_places(
+        ids,
+        n,
+        &mut octets[0..LEARNERS_AT],
+        &mut words[ID_LOW_AT..KEY_LOW_AT],
+    );
     extended(
-        notes,
+        words,
+        octets,
         lists,
         masks,
         kinds,
@@ -271,7 +296,7 @@ pub fn work_out<'a>(
         l,
         0,
         n,
-    )
+    );
 }
 
 // A message that the round does not hold, judged by the notes of the n places that it does: an acceptor message with this id and signer that

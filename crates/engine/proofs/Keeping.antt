@@ -17,7 +17,7 @@ use Rattle.protocol.specs.Table.{Table, Held}
 use Rattle.protocol.proofs.Growth.{length-tabulate}
 use Rattle.scan.specs.PlaceSets.{inSet}
 use Rattle.scan.specs.Arrays.{Named, Lowest, idKeys, IdsIndexed, idIn}
-use Rattle.derive.specs.declared.Notes.{Notes}
+use Rattle.derive.specs.Lent.{Notes, notesIn}
 use Rattle.derive.specs.Notes.{Known, Marks, Filed, signerKey, linkKey, kindKey}
 use Rattle.derive.specs.Records.{tableIn, Fit}
 use Rattle.round.specs.declared.Round.{Round}
@@ -54,8 +54,8 @@ module _ (r s : Round) (keeps : Keeps r s) where
       subst (λ (k : ℕ). T (inSet (getD low (k % idKeys) 0) (getD high (k % idKeys) 0) j)) (sym e) (h j l)
 
   marks-kept : (x : Notes)
-      → Marks (r .held) (r .kinds) (r .signers) (x .names) (r .previous) (x .forklow) (x .forkhigh) (x .tops) (x .forms) (x .keylow) (x .keyhigh) (x .forked .low) (x .forked .high)
-      → Marks (r .held) (s .kinds) (s .signers) (x .names) (s .previous) (x .forklow) (x .forkhigh) (x .tops) (x .forms) (x .keylow) (x .keyhigh) (x .forked .low) (x .forked .high)
+      → Marks (r .held) (r .kinds) (r .signers) (x .names) (r .previous) (x .forklow) (x .forkhigh) (x .tops) (x .forms) (x .keylow) (x .keyhigh) (x .forkedlow) (x .forkedhigh)
+      → Marks (r .held) (s .kinds) (s .signers) (x .names) (s .previous) (x .forklow) (x .forkhigh) (x .tops) (x .forms) (x .keylow) (x .keyhigh) (x .forkedlow) (x .forkedhigh)
   marks-kept x h =
       record {
         bySigner = λ j l. subst (λ (k : ℕ). Filed (x .keylow) (x .keyhigh) (signerKey k) j) (sym (keeps .signers j l)) (h .bySigner j l);
@@ -90,14 +90,18 @@ module _ (r s : Round) (keeps : Keeps r s) where
       })
 
   -- the notes of r are right of its places in s
-  pub worked-kept : Fitting r → r .graph ≡ s .graph → (x : Notes) → Worked r x → WorkedTo s (r .held) x
-  worked-kept f g x h = (
-    (
-      names-kept (x .names) (h .0 .0),
-      subst (λ (G : Graph). Known (viewOf G) after (s .kinds) (s .signers) (x .low) (x .high) (x .forklow) (x .forkhigh) (x .tops) (x .learners) (x .fresh) (x .forms)) g (known-kept f (graphOf r) x (h .0 .1)),
-    ),
-    (ids-kept (x .idlow) (x .idhigh) (h .1 .0), marks-kept x (h .1 .1)),
-  )
+  pub worked-kept : Fitting r → r .graph ≡ s .graph → (w b : List ℕ) → Worked r w b → WorkedTo s (r .held) w b
+  worked-kept f g w b h =
+      let x = notesIn w b in (
+        h .0,
+        (
+          (
+            names-kept (x .names) (h .1 .0 .0),
+            subst (λ (G : Graph). Known (viewOf G) after (s .kinds) (s .signers) (x .low) (x .high) (x .forklow) (x .forkhigh) (x .tops) (x .learners) (x .fresh) (x .forms)) g (known-kept f (graphOf r) x (h .1 .0 .1)),
+          ),
+          (ids-kept (x .idlow) (x .idhigh) (h .1 .1 .0), marks-kept x (h .1 .1 .1)),
+        ),
+      )
 
   -- and none of them names a later one as its previous one
   pub fit-kept : Fit (r .held) (r .kinds) (r .previous) (r .counts) (r .references) → Fit (r .held) (s .kinds) (s .previous) (s .counts) (s .references)
@@ -110,15 +114,15 @@ module _ (r s : Round) (keeps : Keeps r s) where
       }
 
 -- a message that is put behind the others
-pub new-worked : (r : Round) → Typed r → Fitting r → r .held < maxHeld → (h : Held) → Storable r h → (s : Round) (n : ℕ) → s ≡ hold r h 1 → n ≡ r .held → (x : Notes) → Worked r x
-    → (s .held ≡ suc n) × (Fit n (s .kinds) (s .previous) (s .counts) (s .references) × WorkedTo s n x)
-new-worked r typed f room h can s n q m x w =
+pub new-worked : (r : Round) → Typed r → Fitting r → r .held < maxHeld → (h : Held) → Storable r h → (s : Round) (n : ℕ) → s ≡ hold r h 1 → n ≡ r .held → (w b : List ℕ) → Worked r w b
+    → (s .held ≡ suc n) × (Fit n (s .kinds) (s .previous) (s .counts) (s .references) × WorkedTo s n w b)
+new-worked r typed f room h can s n q m w b v =
     let keeps = hold-keeps r typed f room h can 1 in
     let e : hold r h 1 .held ≡ suc (r .held) = hold-appends r typed f room h can 1 .held ∙ add-one (r .held) in
-    subst (λ (t : Round). (t .held ≡ suc n) × (Fit n (t .kinds) (t .previous) (t .counts) (t .references) × WorkedTo t n x)) (sym q)
-    (subst (λ (k : ℕ). (hold r h 1 .held ≡ suc k) × (Fit k (hold r h 1 .kinds) (hold r h 1 .previous) (hold r h 1 .counts) (hold r h 1 .references) × WorkedTo (hold r h 1) k x)) (sym m)
-    (e, (fit-kept r (hold r h 1) keeps (fit-lent r f), worked-kept r (hold r h 1) keeps f (hold-same r typed f room h can 1 .graph) x w)))
+    subst (λ (t : Round). (t .held ≡ suc n) × (Fit n (t .kinds) (t .previous) (t .counts) (t .references) × WorkedTo t n w b)) (sym q)
+    (subst (λ (k : ℕ). (hold r h 1 .held ≡ suc k) × (Fit k (hold r h 1 .kinds) (hold r h 1 .previous) (hold r h 1 .counts) (hold r h 1 .references) × WorkedTo (hold r h 1) k w b)) (sym m)
+    (e, (fit-kept r (hold r h 1) keeps (fit-lent r f), worked-kept r (hold r h 1) keeps f (hold-same r typed f room h can 1 .graph) w b v)))
 
 -- a message that returns changes nothing that is noted
-pub worked-back : (r s : Round) (p : ℕ) → s ≡ returned r p → (x : Notes) → Worked r x → Worked s x
-worked-back r s p e x h = subst (λ (t : Round). Worked t x) (sym e) h
+pub worked-back : (r s : Round) (p : ℕ) → s ≡ returned r p → (w b : List ℕ) → Worked r w b → Worked s w b
+worked-back r s p e w b h = subst (λ (t : Round). Worked t w b) (sym e) h

@@ -2,6 +2,8 @@
 pub mod Replying
 -- A message that is refused or entered
 pub mod Taking
+-- A message that passed rows 8 to 12
+pub mod Settling
 -- A message that enters
 pub mod Entering
 -- The order of a delivery's checks

@@ -1,5 +1,5 @@
--- The rows of a proposal in their order, and a message that is refused by a row or entered.
-use mathlib.Core.Path.{_≡_, refl, sym, subst}
+-- The rows of a proposal in their order, those of an acceptor message that passes 8 to 12, and a message that is refused by a row or entered.
+use mathlib.Core.Path.{_≡_, refl, sym, subst, _∙_}
 use mathlib.Core.Bool.{Bool, true, false}
 use mathlib.Core.Option.{Option, none, some}
 use mathlib.Core.List.{List}
@@ -7,16 +7,22 @@ use Prim.Native.Nat.{ℕ}
 use Rattle.base.specs.Tests.{pick}
 use Rattle.base.specs.declared.refusal.Refusal.{Refusal}
 use Rattle.base.specs.declared.refusal.Refusal.the-variants.{OtherRound, Known, Full}
+use Rattle.message.specs.declared.AcceptorMessage.{AcceptorMessage}
 use Rattle.message.specs.declared.Proposal.{Proposal}
 use Rattle.protocol.specs.Ids.{Id}
 use Rattle.protocol.specs.Table.{Held}
 use Rattle.round.specs.declared.Delivered.{Delivered}
 use Rattle.round.specs.Held.{placeOf}
-use Rattle.round.specs.Delivery.{decidedBy, entered}
+use Rattle.round.specs.Delivery.{decidedBy, entered, acceptorTaken}
+use Rattle.steps.proofs.Lent.{places-lent}
+use Rattle.judging.specs.declared.rows.Row.{Row}
+use Rattle.judging.specs.declared.rows.Row.the-variants.{Clear}
+use Rattle.judging.specs.Turning.{rowOf}
+use Rattle.judging.proofs.Voting.{heads, chains, recordTo, sounds, placesTo, rows, by-rest}
 use Rattle.engine.specs.Giving.{Gives, refusal}
 use Rattle.engine.proofs.Replying.{front-none}
 use Rattle.round.specs.declared.Round.{Round}
-use Rattle.round.specs.Rows.{otherRound, isKnownId, full, proposalRows, firstOf}
+use Rattle.round.specs.Rows.{otherRound, isKnownId, full, proposalRows, firstOf, referenceIds, previousId}
 
 pub proposal-row : (r : Round) (i : Id) (m : Proposal)
     → firstOf (proposalRows r i m) ≡ pick (otherRound r (m .house) (m .bay)) (some OtherRound) (pick (isKnownId r i) (some Known) (pick (full r i) (some Full) none))
@@ -47,3 +53,12 @@ module _ (H : List ℕ → Id) (r : Round) (i : Id) (h : Held) (o : Option Refus
 
   pub taken-entered : (after : List ℕ) → o ≡ none → Gives (entered H r h (placeOf r i)) x before after → Gives (decidedBy H r i h o) x before after
   taken-entered after q g = subst (λ (y : Option Refusal). Gives (decidedBy H r i h y) x before after) (sym q) g
+
+-- ---- an acceptor message, where rows 8 to 12 are clear and l are the places that it refers to
+module _ (r : Round) (i : Id) (b : List ℕ) (m : AcceptorMessage) (l : List ℕ) where
+  -- it is taken as rows 13 to 16 decide
+  pub taken-settled : (H : List ℕ → Id) (x : Delivered) (before after : List ℕ) (y z : Row) → y ≡ rowOf (heads r i b m) → y ≡ Clear → z ≡ rowOf (chains r i b m) → z ≡ Clear → l ≡ placesTo r i b m
+      → Gives (decidedBy H r i (recordTo r i b m l) (sounds r i b m l)) x before after → Gives (acceptorTaken H r i m (previousId b m) (referenceIds b m)) x before after
+  taken-settled H x before after y z u h v k q g =
+      subst (λ (p : List ℕ). Gives (decidedBy H r i (recordTo r i b m p) (rows r i b m)) x before after) (q ∙ sym (places-lent r (referenceIds b m)))
+      (subst (λ (o : Option Refusal). Gives (decidedBy H r i (recordTo r i b m l) o) x before after) (sym (by-rest r i b m y u h z v k l q)) g)

@@ -1,10 +1,12 @@
 -- What the steps of a delivery answer and leave in the reply buffer.
 use mathlib.Core.Path.{_≡_}
-use mathlib.Core.Bool.{not}
+use mathlib.Core.Bool.{Bool, true, false, not, _&&_}
+use mathlib.Core.Option.{Option, some, none}
 use mathlib.Core.List.{List}
 use Prim.Native.Nat.{ℕ, _≤_, _<_}
-use lib.Dec.{T}
+use lib.Dec.{T, leb}
 use lib.ListN.{length, take}
+use Rattle.base.specs.Tests.{any}
 use Rattle.base.specs.declared.refusal.Refusal.{Refusal}
 use Rattle.message.specs.Writer.{fronted}
 use Rattle.protocol.specs.Ids.{Id}
@@ -12,6 +14,8 @@ use Rattle.round.specs.declared.Round.{Round}
 use Rattle.round.specs.declared.Delivered.{Delivered}
 use Rattle.round.specs.declared.Outcome.{Outcome}
 use Rattle.round.specs.declared.Outcome.the-variants.{Accepted, Replied, Refused}
+use Rattle.scan.specs.Arrays.{isOffer}
+use Rattle.round.specs.Held.{placeOf}
 use Rattle.round.specs.Limits.{maxHeld, listening, replyLen}
 use Rattle.round.specs.Handed.{fits}
 use Rattle.round.specs.Rows.{full}
@@ -68,3 +72,11 @@ pub record Enterable (r : Round) (i : Id) (buffer : List ℕ) : Type 0 where
   pub fit : T (fits r)
   pub free : T (not (full r i))
   pub long : replyLen ≤ length buffer
+
+-- ---- a round that only listens hears a 1b that it does not hold: the message with id i, which refers to the places ps
+abbrev pub isNew : Option ℕ → Bool
+isNew none = true
+isNew (some p) = false
+
+abbrev pub hearsFirst : Round → Id → List ℕ → Bool
+hearsFirst r i ps = leb listening (r .own) && (isNew (placeOf r i) && any (isOffer (r .kinds)) ps)

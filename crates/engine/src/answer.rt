@@ -1,7 +1,8 @@
 // After acceptance: the reply to a message that the round holds, sent or not. The round stands in the bytes s.
 use base::put_all;
 use base::size;
-use derive::Notes;
+use derive::OCTETS;
+use derive::WORDS;
 use digest::sha256;
 use graph::Mask;
 use judging::judge::judge;
@@ -91,23 +92,40 @@ fn reply_to(s: &[u8], p: usize, buf: &mut [u8]) -> Reply
 fn is_sent<'a>(
     s: &'a [u8],
     masks: &'a [Mask],
-    notes: Notes,
+    words: &'a [u64],
+    octets: &'a [u8],
     id: &'a [u8],
     places: &'a [u8],
     count: usize,
 ) -> bool
-    requires { ⌜ (roundLen ≤ length (now s)) × ((now masks ≡ roundIn (now s) .graph .masks) × (Worked (roundIn (now s)) notes × (Sendable (roundIn (now s)) (now places) count × Earlier (roundIn (now s)) (take count (now places))))) ⌝ }
+    requires { ⌜ (roundLen ≤ length (now s)) × ((now masks ≡ roundIn (now s) .graph .masks) × (Worked (roundIn (now s)) (now words) (now octets) × (Sendable (roundIn (now s)) (now places) count × Earlier (roundIn (now s)) (take count (now places))))) ⌝ }
     ensures { λ b. ⌜ b ≡ isSent (roundIn (now (s .entry))) (messageOf (roundIn (now (s .entry))) (says (now (id .entry)) (roundIn (now (s .entry)) .own) (named (roundIn (now (s .entry))) (roundIn (now (s .entry)) .last)) (take count (now (places .entry))))) ⌝ }
 {
     let own = word16(s, OWN_AT);
     let last = s[LAST_AT];
-    let note = judge(s, masks, notes, id, &places[0..count], own as u8, last);
+    let note = judge(
+        s,
+        masks,
+        words,
+        octets,
+        id,
+        &places[0..count],
+        own as u8,
+        last,
+    );
     note.formed1b & note.formed2a
 }
 
 // The reply of an acceptor to the message at place p is formed; it is sent where it is well-formed.
-fn answer(s: &mut [u8], masks: &[Mask], notes: Notes, p: usize, reply: &mut [u8]) -> Outcome
-    requires { ⌜ (roundLen ≤ length (now s)) × ((now masks ≡ roundIn (now s) .graph .masks) × (Worked (roundIn (now s)) notes × (Answerable (roundIn (now s)) p (now reply) × (roundIn (now s) .own < 256)))) ⌝ }
+fn answer<'a>(
+    s: &mut [u8],
+    masks: &'a [Mask],
+    words: &'a [u64],
+    octets: &'a [u8],
+    p: usize,
+    reply: &mut [u8],
+) -> Outcome
+    requires { ⌜ (roundLen ≤ length (now s)) × ((now masks ≡ roundIn (now s) .graph .masks) × (Worked (roundIn (now s)) (now words) (now octets) × (Answerable (roundIn (now s)) p (now reply) × (roundIn (now s) .own < 256)))) ⌝ }
     ensures given { λ o. ⌜ Gives (answered sha256 (roundIn (now (s .entry))) p (replyBytes (roundIn (now (s .entry))) p)) (left o (now (s .exit))) (now (reply .entry)) (now (reply .exit)) ⌝ }
     ensures kept { λ _. ⌜ Kept (now (s .entry)) (now (s .exit)) ⌝ }
 {
@@ -117,7 +135,7 @@ fn answer(s: &mut [u8], masks: &[Mask], notes: Notes, p: usize, reply: &mut [u8]
     let count = z.count;
     let len = z.len;
     let id = sha256(&scratch[0..len]);
-    if !is_sent(s, masks, notes, &id, &places, count) {
+    if !is_sent(s, masks, words, octets, &id, &places, count) {
         return join(s, p);
     }
     put_all(reply, 0, &scratch[0..len]);
@@ -131,20 +149,29 @@ pub fn process(s: &mut [u8], masks: &[Mask], p: usize, reply: &mut [u8]) -> Outc
     ensures kept { λ _. ⌜ Kept (now (s .entry)) (now (s .exit)) ⌝ }
 {
     if word16(s, OWN_AT) < 256 {
-        let notes = notes_of(s, masks);
-        return answer(s, masks, notes, p, reply);
+        let mut words = [0u64; WORDS];
+        let mut octets = [0u8; OCTETS];
+        notes_of(s, masks, &mut words, &mut octets);
+        return answer(s, masks, &words, &octets, p, reply);
     }
     Outcome::Accepted
 }
 
 // The same where the notes are worked out.
-pub fn process_by(s: &mut [u8], masks: &[Mask], notes: Notes, p: usize, reply: &mut [u8]) -> Outcome
-    requires { ⌜ (roundLen ≤ length (now s)) × ((now masks ≡ roundIn (now s) .graph .masks) × (Worked (roundIn (now s)) notes × Answerable (roundIn (now s)) p (now reply))) ⌝ }
+pub fn process_by<'a>(
+    s: &mut [u8],
+    masks: &'a [Mask],
+    words: &'a [u64],
+    octets: &'a [u8],
+    p: usize,
+    reply: &mut [u8],
+) -> Outcome
+    requires { ⌜ (roundLen ≤ length (now s)) × ((now masks ≡ roundIn (now s) .graph .masks) × (Worked (roundIn (now s)) (now words) (now octets) × Answerable (roundIn (now s)) p (now reply))) ⌝ }
     ensures given { λ o. ⌜ Gives (processed sha256 (roundIn (now (s .entry))) p) (left o (now (s .exit))) (now (reply .entry)) (now (reply .exit)) ⌝ }
     ensures kept { λ _. ⌜ Kept (now (s .entry)) (now (s .exit)) ⌝ }
 {
     if word16(s, OWN_AT) < 256 {
-        return answer(s, masks, notes, p, reply);
+        return answer(s, masks, words, octets, p, reply);
     }
     Outcome::Accepted
 }
@@ -153,17 +180,18 @@ pub fn process_by(s: &mut [u8], masks: &[Mask], notes: Notes, p: usize, reply: &
 pub fn process_new(
     s: &mut [u8],
     masks: &[Mask],
-    notes: Notes,
+    words: &mut [u64],
+    octets: &mut [u8],
     p: usize,
     reply: &mut [u8],
 ) -> Outcome
-    requires { ⌜ (roundLen ≤ length (now s)) × ((now masks ≡ roundIn (now s) .graph .masks) × (((roundIn (now s) .held ≡ suc p) × (Fit p (roundIn (now s) .kinds) (roundIn (now s) .previous) (roundIn (now s) .counts) (roundIn (now s) .references) × WorkedTo (roundIn (now s)) p notes)) × Answerable (roundIn (now s)) p (now reply))) ⌝ }
+    requires { ⌜ (roundLen ≤ length (now s)) × ((now masks ≡ roundIn (now s) .graph .masks) × (((roundIn (now s) .held ≡ suc p) × (Fit p (roundIn (now s) .kinds) (roundIn (now s) .previous) (roundIn (now s) .counts) (roundIn (now s) .references) × WorkedTo (roundIn (now s)) p (now words) (now octets))) × Answerable (roundIn (now s)) p (now reply))) ⌝ }
     ensures given { λ o. ⌜ Gives (processed sha256 (roundIn (now (s .entry))) p) (left o (now (s .exit))) (now (reply .entry)) (now (reply .exit)) ⌝ }
     ensures kept { λ _. ⌜ Kept (now (s .entry)) (now (s .exit)) ⌝ }
 {
     if word16(s, OWN_AT) < 256 {
-        let more = notes_more(s, masks, notes, p);
-        return answer(s, masks, more, p, reply);
+        notes_more(s, masks, words, octets, p);
+        return answer(s, masks, words, octets, p, reply);
     }
     Outcome::Accepted
 }

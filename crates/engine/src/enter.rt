@@ -4,7 +4,6 @@ use crate::answer::process;
 use crate::answer::process_by;
 use crate::answer::process_new;
 use base::size;
-use derive::Notes;
 use graph::Mask;
 use round::Outcome;
 use roundbytes::HELD_AT;
@@ -75,7 +74,8 @@ pub fn enter_proposal<'a>(
 fn add_vote<'a>(
     s: &mut [u8],
     masks: &'a [Mask],
-    notes: Notes,
+    words: &mut [u64],
+    octets: &mut [u8],
     id: &'a [u8],
     signer: u8,
     bytes: &'a [u8],
@@ -84,21 +84,22 @@ fn add_vote<'a>(
     count: usize,
     reply: &mut [u8],
 ) -> Outcome
-    requires { ⌜ (roundLen ≤ length (now s)) × ((now masks ≡ roundIn (now s) .graph .masks) × (Worked (roundIn (now s)) notes × ((Enterable (roundIn (now s)) (now id) (now reply) × (placeOf (roundIn (now s)) (now id) ≡ none)) × ((length (now id) ≡ 32) × ((42 ≤ length (now bytes)) × ((count ≤ length (now places)) × Referring (roundIn (now s)) (previousIn (now bytes) previous) (take count (now places)))))))) ⌝ }
+    requires { ⌜ (roundLen ≤ length (now s)) × ((now masks ≡ roundIn (now s) .graph .masks) × (Worked (roundIn (now s)) (now words) (now octets) × ((Enterable (roundIn (now s)) (now id) (now reply) × (placeOf (roundIn (now s)) (now id) ≡ none)) × ((length (now id) ≡ 32) × ((42 ≤ length (now bytes)) × ((count ≤ length (now places)) × Referring (roundIn (now s)) (previousIn (now bytes) previous) (take count (now places)))))))) ⌝ }
     ensures given { λ o. ⌜ Gives (entered sha256 (roundIn (now (s .entry))) (says (now (id .entry)) signer (previousIn (now (bytes .entry)) previous) (take count (now (places .entry)))) (placeOf (roundIn (now (s .entry))) (now (id .entry)))) (left o (now (s .exit))) (now (reply .entry)) (now (reply .exit)) ⌝ }
     ensures kept { λ _. ⌜ Kept (now (s .entry)) (now (s .exit)) ⌝ }
 {
     let held = size(s[HELD_AT]);
     let at = previous_place(&s[IDS_AT..KINDS_AT], held, bytes, previous);
     hold_vote(s, id, signer, at, places, count, 1);
-    process_new(s, masks, notes, held, reply)
+    process_new(s, masks, words, octets, held, reply)
 }
 
 // An acceptor message, whose references are the first `count` of some places, and whose previous id stands in its bytes.
 pub fn enter_vote<'a>(
     s: &mut [u8],
     masks: &'a [Mask],
-    notes: Notes,
+    words: &mut [u64],
+    octets: &mut [u8],
     id: &'a [u8],
     signer: u8,
     bytes: &'a [u8],
@@ -107,7 +108,7 @@ pub fn enter_vote<'a>(
     count: usize,
     reply: &mut [u8],
 ) -> Outcome
-    requires { ⌜ (roundLen ≤ length (now s)) × ((now masks ≡ roundIn (now s) .graph .masks) × (Worked (roundIn (now s)) notes × (Enterable (roundIn (now s)) (now id) (now reply) × ((length (now id) ≡ 32) × ((42 ≤ length (now bytes)) × ((count ≤ length (now places)) × Referring (roundIn (now s)) (previousIn (now bytes) previous) (take count (now places)))))))) ⌝ }
+    requires { ⌜ (roundLen ≤ length (now s)) × ((now masks ≡ roundIn (now s) .graph .masks) × (Worked (roundIn (now s)) (now words) (now octets) × (Enterable (roundIn (now s)) (now id) (now reply) × ((length (now id) ≡ 32) × ((42 ≤ length (now bytes)) × ((count ≤ length (now places)) × Referring (roundIn (now s)) (previousIn (now bytes) previous) (take count (now places)))))))) ⌝ }
     ensures given { λ o. ⌜ Gives (entered sha256 (roundIn (now (s .entry))) (says (now (id .entry)) signer (previousIn (now (bytes .entry)) previous) (take count (now (places .entry)))) (placeOf (roundIn (now (s .entry))) (now (id .entry)))) (left o (now (s .exit))) (now (reply .entry)) (now (reply .exit)) ⌝ }
     ensures kept { λ _. ⌜ Kept (now (s .entry)) (now (s .exit)) ⌝ }
 {
@@ -115,12 +116,13 @@ pub fn enter_vote<'a>(
     match place_of(&s[IDS_AT..KINDS_AT], held, id) {
         Found::At(p) => {
             returned(s, p);
-            process_by(s, masks, notes, p, reply)
+            process_by(s, masks, words, octets, p, reply)
         }
         Found::Nothing => add_vote(
             s,
             masks,
-            notes,
+            words,
+            octets,
             id,
             signer,
             bytes,

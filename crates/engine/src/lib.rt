@@ -24,6 +24,7 @@ use steps::start::refused_opening;
 
 mod answer;
 mod enter;
+mod settle;
 mod take;
 
 ghost use mathlib.Core.Path.{_≡_};

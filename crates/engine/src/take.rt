@@ -1,15 +1,13 @@
 // A message that was read: refused by the first row that applies, or else entered.
 use crate::enter::enter_proposal;
-use crate::enter::enter_vote;
+use crate::settle::settle;
 use base::refusal::Refusal;
-use judging::meaning::notes_of;
 use judging::rows::Row;
 use judging::rows::chain_row;
 use judging::rows::head_row;
 use judging::rows::knows;
 use judging::rows::lacks_room;
 use judging::rows::of_another;
-use judging::rows::sound_row;
 use message::AcceptorMessage;
 use message::Proposal;
 use round::Outcome;
@@ -67,32 +65,5 @@ pub fn take_vote<'a>(
     if let Row::Applies(e) = row {
         return Outcome::Refused(e);
     }
-    let masks = masks_in(s);
-    let notes = notes_of(s, &masks);
-    let sound = sound_row(
-        s,
-        &masks,
-        notes,
-        id,
-        m.signer,
-        bytes,
-        m.previous,
-        &places,
-        m.count,
-    );
-    if let Row::Applies(e) = sound {
-        return Outcome::Refused(e);
-    }
-    enter_vote(
-        s,
-        &masks,
-        notes,
-        id,
-        m.signer,
-        bytes,
-        m.previous,
-        &places,
-        m.count,
-        reply,
-    )
+    settle(s, id, m.signer, bytes, m.previous, &places, m.count, reply)
 }

@@ -65,7 +65,7 @@ pub fewer : (k n : ℕ) (l : List ℕ) → k ≤ n → length l ≡ n → k ≤ 
 fewer k n l h e = omega arith
 
 -- where none of rows 13 to 16 applies, there is room
-form-free : (a b c l : Bool) → formRow a b c l ≡ none → T (not l)
+pub form-free : (a b c l : Bool) → formRow a b c l ≡ none → T (not l)
 form-free true true true false e = tt
 form-free true true true true e = absurd (let z : _≡_ {A = ℕ} 0 1 = cc in omega arith)
 form-free true true false l e = absurd (let z : _≡_ {A = ℕ} 0 1 = cc in omega arith)
@@ -129,15 +129,5 @@ module _ (r : Round) (i : Id) (b : List ℕ) (m : AcceptorMessage) where
       pub by-chain : (e : Refusal) → z ≡ Applies e → rows ≡ some e
       by-chain e t = past placesTo refl ∙ ap (λ (o : Option Refusal). orElse o (sounds placesTo)) (row-applies chains e (sym also ∙ t))
 
-      module _ (chained : z ≡ Clear) (l : List ℕ) (q : l ≡ placesTo) (x : Row) (last : x ≡ rowOf (sounds l)) where
-        end : rows ≡ sounds l
-        end = past l q ∙ ap (λ (o : Option Refusal). orElse o (sounds l)) (row-clear chains (sym also ∙ chained))
-
-        pub by-sound : (e : Refusal) → x ≡ Applies e → rows ≡ some e
-        by-sound e t = end ∙ row-applies (sounds l) e (sym last ∙ t)
-
-        pub by-none : x ≡ Clear → (rows ≡ none) × T (not (full r i))
-        by-none t =
-            let n = row-clear (sounds l) (sym last ∙ t) in
-            let m = messageOf r (recordTo l) in
-            (end ∙ n, form-free (hasProposal m) (formed1b m) (formed2a (graphOf r) m) (full r i) n)
+      pub by-rest : z ≡ Clear → (l : List ℕ) → l ≡ placesTo → rows ≡ sounds l
+      by-rest t l q = past l q ∙ ap (λ (o : Option Refusal). orElse o (sounds l)) (row-clear chains (sym also ∙ t))

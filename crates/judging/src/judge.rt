@@ -1,7 +1,19 @@
 // An acceptor message that a round does not hold, judged by what the round holds.
 use base::size;
+use derive::FORK_HIGH_AT;
+use derive::FORK_LOW_AT;
+use derive::FORKED_AT;
+use derive::FORMS_AT;
+use derive::FRESH_AT;
+use derive::HIGH_AT;
+use derive::ID_HIGH_AT;
+use derive::ID_LOW_AT;
+use derive::KEY_HIGH_AT;
+use derive::KEY_LOW_AT;
+use derive::LEARNERS_AT;
 use derive::Note;
-use derive::Notes;
+use derive::OCTETS;
+use derive::TOPS_AT;
 use derive::pass::note_new;
 use graph::Mask;
 use roundbytes::BALLOTS_AT;
@@ -13,6 +25,7 @@ use roundbytes::LIST_COUNTS_AT;
 use roundbytes::MASKS_AT;
 use roundbytes::PREVIOUS_AT;
 use roundbytes::SIGNERS_AT;
+use scan::Places;
 ghost use mathlib.Core.Path.{_≡_};
 ghost use mathlib.Core.Logic.{_⊎_};
 ghost use Prim.Native.Nat.{ℕ, _≤_, _<_};
@@ -32,18 +45,23 @@ ghost use Rattle.judging.specs.Working.{Worked};
 pub fn judge<'a>(
     s: &'a [u8],
     masks: &'a [Mask],
-    notes: Notes,
+    words: &'a [u64],
+    octets: &'a [u8],
     id: &'a [u8],
     places: &'a [u8],
     signer: u8,
     previous: u8,
 ) -> Note
-    requires { ⌜ (roundLen ≤ length (now s)) × ((now masks ≡ roundIn (now s) .graph .masks) × (T (fits (roundIn (now s))) × (Worked (roundIn (now s)) notes × (((previous ≡ 255) ⊎ (previous < roundIn (now s) .held)) × ((j : ℕ) → j ∈ (now places) → j < roundIn (now s) .held))))) ⌝ }
+    requires { ⌜ (roundLen ≤ length (now s)) × ((now masks ≡ roundIn (now s) .graph .masks) × (T (fits (roundIn (now s))) × (Worked (roundIn (now s)) (now words) (now octets) × (((previous ≡ 255) ⊎ (previous < roundIn (now s) .held)) × ((j : ℕ) → j ∈ (now places) → j < roundIn (now s) .held))))) ⌝ }
     ensures { λ r. ⌜ Judged (graphOf (roundIn (now (s .entry)))) (messageOf (roundIn (now (s .entry))) (says (now (id .entry)) signer (named (roundIn (now (s .entry))) previous) (now (places .entry)))) r ⌝ }
 {
     let acceptors = s[0];
     let learners = size(s[1]);
     let held = size(s[HELD_AT]);
+    let forked = Places {
+        low: words[FORKED_AT],
+        high: words[FORKED_AT + 1],
+    };
     note_new(
         &s[LIST_COUNTS_AT..MASKS_AT],
         masks,
@@ -51,19 +69,19 @@ pub fn judge<'a>(
         &s[KINDS_AT..SIGNERS_AT],
         &s[SIGNERS_AT..BALLOTS_AT],
         &s[PREVIOUS_AT..COUNTS_AT],
-        &notes.names,
-        &notes.low,
-        &notes.high,
-        &notes.forklow,
-        &notes.forkhigh,
-        &notes.tops,
-        &notes.learners,
-        &notes.fresh,
-        &notes.forms,
-        &notes.idlow,
-        &notes.idhigh,
-        &notes.keylow,
-        &notes.keyhigh,
+        &octets[0..LEARNERS_AT],
+        &words[0..HIGH_AT],
+        &words[HIGH_AT..FORK_LOW_AT],
+        &words[FORK_LOW_AT..FORK_HIGH_AT],
+        &words[FORK_HIGH_AT..TOPS_AT],
+        &words[TOPS_AT..ID_LOW_AT],
+        &octets[LEARNERS_AT..FRESH_AT],
+        &octets[FRESH_AT..FORMS_AT],
+        &octets[FORMS_AT..OCTETS],
+        &words[ID_LOW_AT..ID_HIGH_AT],
+        &words[ID_HIGH_AT..KEY_LOW_AT],
+        &words[KEY_LOW_AT..KEY_HIGH_AT],
+        &words[KEY_HIGH_AT..FORKED_AT],
         id,
         places,
         acceptors,
@@ -71,6 +89,6 @@ pub fn judge<'a>(
         held,
         signer,
         previous,
-        notes.forked,
+        forked,
     )
 }

@@ -1,6 +1,5 @@
 // What the messages that a round holds mean, worked out. The round stands in bytes, and its masks are lent as they were read.
 use base::size;
-use derive::Notes;
 use derive::grow::grown;
 use derive::pass::work_out;
 use graph::Mask;
@@ -21,20 +20,23 @@ ghost use Prim.Native.Nat.{suc, _≤_};
 ghost use lib.Dec.{T};
 ghost use lib.ListN.{length};
 ghost use Rattle.derive.specs.Records.{Fit};
+ghost use Rattle.derive.specs.Lent.{Lent};
 ghost use Rattle.round.specs.Handed.{fits};
 ghost use Rattle.roundbytes.specs.Layout.{roundLen, roundIn};
 ghost use Rattle.judging.specs.Working.{WorkedTo, Worked};
 
-// The notes of the held messages.
-pub fn notes_of<'a>(s: &'a [u8], masks: &'a [Mask]) -> Notes
-    requires { ⌜ (roundLen ≤ length (now s)) × ((now masks ≡ roundIn (now s) .graph .masks) × T (fits (roundIn (now s)))) ⌝ }
-    ensures { λ r. ⌜ Worked (roundIn (now (s .entry))) r ⌝ }
+// The notes of the held messages, whatever stood in the arrays.
+pub fn notes_of<'a>(s: &'a [u8], masks: &'a [Mask], words: &mut [u64], octets: &mut [u8])
+    requires { ⌜ (roundLen ≤ length (now s)) × ((now masks ≡ roundIn (now s) .graph .masks) × (T (fits (roundIn (now s))) × Lent (now words) (now octets))) ⌝ }
+    ensures { λ _. ⌜ Worked (roundIn (now (s .entry))) (now (words .exit)) (now (octets .exit)) ⌝ }
 {
     let acceptors = s[0];
     let learners = size(s[1]);
     let held = size(s[HELD_AT]);
     let ballots = ballots_in(s);
     work_out(
+        words,
+        octets,
         &s[LIST_COUNTS_AT..MASKS_AT],
         masks,
         &s[IDS_AT..KINDS_AT],
@@ -47,19 +49,26 @@ pub fn notes_of<'a>(s: &'a [u8], masks: &'a [Mask]) -> Notes
         acceptors,
         learners,
         held,
-    )
+    );
 }
 
 // The notes of the held messages, from those of the first n, which are all but the last.
-pub fn notes_more<'a>(s: &'a [u8], masks: &'a [Mask], notes: Notes, n: usize) -> Notes
-    requires { ⌜ (roundLen ≤ length (now s)) × ((now masks ≡ roundIn (now s) .graph .masks) × (T (fits (roundIn (now s))) × ((roundIn (now s) .held ≡ suc n) × (Fit n (roundIn (now s) .kinds) (roundIn (now s) .previous) (roundIn (now s) .counts) (roundIn (now s) .references) × WorkedTo (roundIn (now s)) n notes)))) ⌝ }
-    ensures { λ r. ⌜ Worked (roundIn (now (s .entry))) r ⌝ }
+pub fn notes_more<'a>(
+    s: &'a [u8],
+    masks: &'a [Mask],
+    words: &mut [u64],
+    octets: &mut [u8],
+    n: usize,
+)
+    requires { ⌜ (roundLen ≤ length (now s)) × ((now masks ≡ roundIn (now s) .graph .masks) × (T (fits (roundIn (now s))) × ((roundIn (now s) .held ≡ suc n) × (Fit n (roundIn (now s) .kinds) (roundIn (now s) .previous) (roundIn (now s) .counts) (roundIn (now s) .references) × WorkedTo (roundIn (now s)) n (now words) (now octets))))) ⌝ }
+    ensures { λ _. ⌜ Worked (roundIn (now (s .entry))) (now (words .exit)) (now (octets .exit)) ⌝ }
 {
     let acceptors = s[0];
     let learners = size(s[1]);
     let ballots = ballots_in(s);
     grown(
-        notes,
+        words,
+        octets,
         &s[LIST_COUNTS_AT..MASKS_AT],
         masks,
         &s[IDS_AT..KINDS_AT],
@@ -72,5 +81,5 @@ pub fn notes_more<'a>(s: &'a [u8], masks: &'a [Mask], notes: Notes, n: usize) ->
         acceptors,
         learners,
         n,
-    )
+    );
 }

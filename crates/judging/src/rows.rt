@@ -3,12 +3,14 @@ use crate::judge::judge;
 use base::refusal::Refusal;
 use base::size;
 use derive::Note;
-use derive::Notes;
+use derive::first::is_formed_1b;
+use derive::first::reach_held;
 use graph::Mask;
 use message::AcceptorMessage;
 use message::layout::references_at;
 use roundbytes::BALLOTS_AT;
 use roundbytes::BAY_AT;
+use roundbytes::COUNTS_AT;
 use roundbytes::HELD_AT;
 use roundbytes::HOUSE_AT;
 use roundbytes::IDS_AT;
@@ -16,7 +18,9 @@ use roundbytes::KINDS_AT;
 use roundbytes::KNOWN_AT;
 use roundbytes::OWN_AT;
 use roundbytes::RECENT_AT;
+use roundbytes::REFERENCES_AT;
 use roundbytes::SIGNERS_AT;
+use roundbytes::ballots_in;
 use roundbytes::word16;
 use steps::lookup::previous_place;
 use steps::rows::is_awaited;
@@ -27,11 +31,17 @@ use steps::rows::is_other;
 use steps::rows::is_unchained;
 use steps::rows::resolve;
 ghost use mathlib.Core.Path.{_≡_};
-ghost use Prim.Native.Nat.{_+_, _*_, _≤_};
+ghost use mathlib.Core.Bool.{true};
+ghost use mathlib.Core.Option.{Option, none};
+ghost use Prim.Native.Nat.{ℕ, _+_, _*_, _≤_, _<_};
 ghost use lib.Dec.{T};
 ghost use lib.ListN.{length, take};
+ghost use Rattle.base.specs.Tests.{_∈_, any};
 ghost use Rattle.message.specs.Layout.{referencesAt};
+ghost use Rattle.protocol.specs.Ids.{Id};
 ghost use Rattle.protocol.specs.Table.{says};
+ghost use Rattle.scan.specs.Arrays.{isOffer};
+ghost use Rattle.round.specs.Held.{placeOf};
 ghost use Rattle.round.specs.Handed.{fits};
 ghost use Rattle.round.specs.Rows.{otherRound, isKnownId, referenceIds, previousId, lacks, unchained, messageOf, full};
 ghost use Rattle.roundbytes.specs.Layout.{roundLen, roundIn};
@@ -164,7 +174,8 @@ fn form_row(note: Note, lacks: bool) -> Row
 pub fn sound_row<'a>(
     s: &'a [u8],
     masks: &'a [Mask],
-    notes: Notes,
+    words: &'a [u64],
+    octets: &'a [u8],
     id: &'a [u8],
     signer: u8,
     bytes: &'a [u8],
@@ -172,12 +183,50 @@ pub fn sound_row<'a>(
     places: &'a [u8],
     count: usize,
 ) -> Row
-    requires { ⌜ (roundLen ≤ length (now s)) × ((now masks ≡ roundIn (now s) .graph .masks) × (T (fits (roundIn (now s))) × (Worked (roundIn (now s)) notes × ((length (now id) ≡ 32) × ((42 ≤ length (now bytes)) × ((count ≤ length (now places)) × Referring (roundIn (now s)) (previousIn (now bytes) previous) (take count (now places)))))))) ⌝ }
+    requires { ⌜ (roundLen ≤ length (now s)) × ((now masks ≡ roundIn (now s) .graph .masks) × (T (fits (roundIn (now s))) × (Worked (roundIn (now s)) (now words) (now octets) × ((length (now id) ≡ 32) × ((42 ≤ length (now bytes)) × ((count ≤ length (now places)) × Referring (roundIn (now s)) (previousIn (now bytes) previous) (take count (now places)))))))) ⌝ }
     ensures { λ r. ⌜ r ≡ rowOf (soundRow (roundIn (now (s .entry))) (now (id .entry)) (messageOf (roundIn (now (s .entry))) (says (now (id .entry)) signer (previousIn (now (bytes .entry)) previous) (take count (now (places .entry)))))) ⌝ }
 {
     let held = size(s[HELD_AT]);
     let at = previous_place(&s[IDS_AT..KINDS_AT], held, bytes, previous);
-    let note = judge(s, masks, notes, id, &places[0..count], signer, at);
+    let note = judge(s, masks, words, octets, id, &places[0..count], signer, at);
+    let lacks = lacks_room(s, id);
+    form_row(note, lacks)
+}
+
+// The same of a 1b that the round does not hold: learners are not asked.
+pub fn first_row<'a>(s: &'a [u8], id: &'a [u8], places: &'a [u8], count: usize) -> Row
+    requires { ⌜ (roundLen ≤ length (now s)) × (T (fits (roundIn (now s))) × ((length (now id) ≡ 32) × ((count ≤ length (now places)) × ((placeOf (roundIn (now s)) (now id) ≡ none)
+        × ((any (isOffer (roundIn (now s) .kinds)) (take count (now places)) ≡ true) × ((j : ℕ) → j ∈ take count (now places) → j < roundIn (now s) .held)))))) ⌝ }
+    ensures { λ x. ⌜ ((signer : ℕ) (prev : Option Id) → x ≡ rowOf (soundRow (roundIn (now (s .entry))) (now (id .entry)) (messageOf (roundIn (now (s .entry))) (says (now (id .entry)) signer prev (take count (now (places .entry))))))) ⌝ }
+{
+    let held = size(s[HELD_AT]);
+    let ballots = ballots_in(s);
+    let mut low = [0u64; 128];
+    let mut high = [0u64; 128];
+    let mut tops = [0u64; 128];
+    reach_held(
+        &mut low,
+        &mut high,
+        &mut tops,
+        &s[KINDS_AT..SIGNERS_AT],
+        &ballots,
+        &s[COUNTS_AT..REFERENCES_AT],
+        &s[REFERENCES_AT..KNOWN_AT],
+        held,
+    );
+    let formed1b = is_formed_1b(
+        &s[KINDS_AT..SIGNERS_AT],
+        &low,
+        &high,
+        &tops,
+        &places[0..count],
+        held,
+    );
+    let note = Note {
+        grounded: true,
+        formed1b,
+        formed2a: true,
+    };
     let lacks = lacks_room(s, id);
     form_row(note, lacks)
 }

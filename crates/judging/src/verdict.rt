@@ -1,7 +1,20 @@
 // The report for a learner: what the held messages mean is worked out, and the known ones are asked.
 use crate::meaning::notes_of;
 use base::size;
+use derive::FORK_HIGH_AT;
+use derive::FORK_LOW_AT;
+use derive::FORKED_AT;
+use derive::FORMS_AT;
+use derive::FRESH_AT;
+use derive::HIGH_AT;
+use derive::ID_LOW_AT;
+use derive::KEY_HIGH_AT;
+use derive::KEY_LOW_AT;
+use derive::LEARNERS_AT;
+use derive::OCTETS;
+use derive::TOPS_AT;
 use derive::Verdict;
+use derive::WORDS;
 use derive::report::report_for;
 use graph::Mask;
 use round::Report;
@@ -30,7 +43,11 @@ pub fn verdict_for<'a>(s: &'a [u8], masks: &'a [Mask], learner: usize) -> Verdic
     ensures { λ r. ⌜ r ≡ shown (report (graphOf (roundIn (now (s .entry)))) (knownMessages (roundIn (now (s .entry)))) learner) ⌝ }
 {
     let acceptors = s[0];
-    let notes = notes_of(s, masks);
+    let mut words = [0u64; WORDS];
+    let mut octets = [0u8; OCTETS];
+    notes_of(s, masks, &mut words, &mut octets);
+    let w = &words[..];
+    let o = &octets[..];
     let learners = size(s[1]);
     let held = size(s[HELD_AT]);
     report_for(
@@ -39,16 +56,16 @@ pub fn verdict_for<'a>(s: &'a [u8], masks: &'a [Mask], learner: usize) -> Verdic
         &s[KNOWN_AT..RECENT_AT],
         &s[KINDS_AT..SIGNERS_AT],
         &s[SIGNERS_AT..BALLOTS_AT],
-        &notes.low,
-        &notes.high,
-        &notes.forklow,
-        &notes.forkhigh,
-        &notes.tops,
-        &notes.learners,
-        &notes.fresh,
-        &notes.forms,
-        &notes.keylow,
-        &notes.keyhigh,
+        &w[0..HIGH_AT],
+        &w[HIGH_AT..FORK_LOW_AT],
+        &w[FORK_LOW_AT..FORK_HIGH_AT],
+        &w[FORK_HIGH_AT..TOPS_AT],
+        &w[TOPS_AT..ID_LOW_AT],
+        &o[LEARNERS_AT..FRESH_AT],
+        &o[FRESH_AT..FORMS_AT],
+        &o[FORMS_AT..OCTETS],
+        &w[KEY_LOW_AT..KEY_HIGH_AT],
+        &w[KEY_HIGH_AT..FORKED_AT],
         acceptors,
         learners,
         held,

@@ -9,6 +9,7 @@ use lib.ListN.{length, getD, length-set}
 use lib.Seq.{getD-set-same, getD-set-other}
 use Rattle.base.specs.Tests.{all}
 use Rattle.base.proofs.Tests.{and-in, or-l, or-r, or-out, all-in, dec-T, neqb→ne}
+use Rattle.base.proofs.Cuts.{length-put}
 use Rattle.message.specs.Layout.{idLen, proposalKind}
 use Rattle.protocol.specs.Table.{Held, heldId, heldSigner, heldPrevious, offered, places}
 use Rattle.round.specs.declared.Round.{Round}
@@ -18,7 +19,7 @@ use Rattle.round.specs.Handed.{placeFits, ownFits, refersBack}
 use Rattle.round.specs.Delivery.{hold, previousPlace}
 use Rattle.round.specs.Demands.{Typed}
 use Rattle.round.proofs.Step.{Same, Appends}
-use Rattle.round.proofs.Parts.{bytes-put, length-put}
+use Rattle.round.proofs.Parts.{bytes-put}
 use Rattle.round.proofs.Fitting.{Fitting, Keeps, back-kept, place-more}
 use Rattle.round.proofs.Holding.{Storable, appended, kindIn, ballotIn, kind-offered, hold-is, keeps, table, new-id, new-refs, new-kind}
 

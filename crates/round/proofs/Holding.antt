@@ -10,6 +10,7 @@ use lib.ListN.{length, getD, set}
 use lib.Seq.{getD-set-same, getD-set-other}
 use Rattle.base.specs.Tests.{_∈_, pick}
 use Rattle.base.specs.Bytes.{part, putAt, Octets}
+use Rattle.base.proofs.Cuts.{part-put-front}
 use Rattle.message.specs.Layout.{idLen, proposalKind, acceptorKind}
 use Rattle.protocol.specs.Table.{Held, offers, says, tabulate, heldId, heldSigner, heldPrevious, offered, places}
 use Rattle.round.specs.declared.Round.{Round}
@@ -18,7 +19,7 @@ use Rattle.round.specs.Held.{idAt, named, previousAt, referencesAt, reco
 use Rattle.round.specs.Handed.{placeFits}
 use Rattle.round.specs.Delivery.{hold, previousPlace}
 use Rattle.round.specs.Demands.{Typed}
-use Rattle.round.proofs.Parts.{part-put, part-put-front, put-nothing, tabulate-cong}
+use Rattle.round.proofs.Parts.{part-put, put-nothing, tabulate-cong}
 use Rattle.round.proofs.Fitting.{Fitting, Keeps, named-kept, record-kept}
 
 -- ---- the same round for both kinds of record

@@ -1,20 +1,13 @@
 -- Laws of lists: a part read out of a list, and of a list with something put in; numbers that stay bytes.
-use mathlib.Core.Path.{_≡_, refl, sym, ap, _∙_}
+use mathlib.Core.Path.{_≡_, refl, ap, _∙_}
 use mathlib.Core.List.{List, [], _∷_, _++_, append-assoc, append-nil}
 use Prim.Native.Nat.{ℕ, zero, suc, _+_, _≤_, _<_}
 use native.Mathlib.Nat.{add-zero}
 use native.Mathlib.Omega.{arith}
-use lib.ListN.{length, take, drop, length-append, length-take, length-drop, take-append-drop}
-use lib.Seq.{take-at, drop-at, drop-append-le, take-append-le, length-take-le, getD-drop}
+use lib.ListN.{length, take, drop, take-append-drop}
+use lib.Seq.{take-at, drop-at, length-take-le, getD-drop}
 use Rattle.base.specs.Bytes.{part, putAt, Octets}
 use Rattle.protocol.specs.Table.{Held, tabulate}
-
-pub length-part : (n : ℕ) (l : List ℕ) (at : ℕ) → at + n ≤ length l → length (part n l at) ≡ n
-length-part n l at h = length-take-le n (drop at l) (omega (arith, length-drop at l))
-
--- a part of the first of two lists
-pub part-front : (a w : List ℕ) (n at : ℕ) → at + n ≤ length a → part n (a ++ w) at ≡ part n a at
-part-front a w n at h = ap (take n) (drop-append-le at a w (omega arith)) ∙ take-append-le n (drop at a) w (omega (arith, length-drop at a))
 
 -- what was put in is read back
 pub part-put : (l v : List ℕ) (at n : ℕ) → at ≤ length l → length v ≡ n → part n (putAt l at v) at ≡ v
@@ -22,18 +15,6 @@ part-put l v at n h e =
     ap (λ (x : List ℕ). part n x at) (append-assoc (take at l) v (drop (at + length v) l))
     ∙ ap (take n) (drop-at (take at l) (v ++ drop (at + length v) l) at (length-take-le at l h))
     ∙ take-at v (drop (at + length v) l) n e
-
--- what stands in front of it stays
-pub part-put-front : (l v : List ℕ) (at n from : ℕ) → from + n ≤ at → at ≤ length l → part n (putAt l at v) from ≡ part n l from
-part-put-front l v at n from h k =
-    let e : length (take at l) ≡ at = length-take-le at l k in
-    ap (λ (x : List ℕ). part n x from) (append-assoc (take at l) v (drop (at + length v) l))
-    ∙ part-front (take at l) (v ++ drop (at + length v) l) n from (omega arith)
-    ∙ sym (part-front (take at l) (drop at l) n from (omega arith))
-    ∙ ap (λ (x : List ℕ). part n x from) (take-append-drop at l)
-
-pub length-put : (l v : List ℕ) (at : ℕ) → at + length v ≤ length l → length (putAt l at v) ≡ length l
-length-put l v at h = simp (length-append, length-take, length-drop) (omega arith)
 
 pub put-nothing : (l : List ℕ) (at : ℕ) → putAt l at [] ≡ l
 put-nothing l at = ap (λ (k : ℕ). take at l ++ [] ++ drop k l) (add-zero at) ∙ ap (λ (r : List ℕ). r ++ drop at l) (append-nil (take at l)) ∙ take-append-drop at l

@@ -11,6 +11,7 @@ use lib.ListN.{length}
 use borrow.Author.Tests.{ne-eqb, eq-eqb}
 use Rattle.base.specs.Tests.{_∈_, pick}
 use Rattle.base.proofs.Tests.{or-l, or-r, or-out, map-in, map-out}
+use Rattle.base.proofs.Bytes.{part-length}
 use Rattle.message.specs.Layout as layout
 use Rattle.message.specs.Layout.{idLen}
 use Rattle.message.specs.Order.{ascending}
@@ -28,7 +29,6 @@ use Rattle.round.specs.Handed.{placeFits}
 use Rattle.round.specs.Rows.{referenceIds, previousId}
 use Rattle.round.specs.Reply.{inReply, orEmpty, joined, replyPlaces, replyBytes}
 use Rattle.round.specs.Demands.{Typed, RecentId, ReplySays}
-use Rattle.round.proofs.Parts.{length-part}
 use Rattle.round.proofs.Fitting.{Fitting, place-cases}
 use Rattle.round.proofs.Order.{Rising, idsOf}
 use Rattle.round.proofs.Chosen.{chosen-out, chosen-most, reply-covers, reply-some, id-size, reply-rising}
@@ -60,7 +60,7 @@ module _ (r : Round) where
     where
       here : (b : Bool) → p < r .held → WholeId (pick b none (some (idAt r p)))
       here true l = tt
-      here false l = length-part idLen (r .ids) (idLen * p) (omega (arith, typed .idsSize))
+      here false l = part-length idLen (r .ids) (idLen * p) (omega (arith, typed .idsSize))
 
       step : (p ≡ noPlace) ⊎ (p < r .held) → WholeId (named r p)
       step (inl e) = subst (λ (b : Bool). WholeId (pick b none (some (idAt r p)))) (sym (eq-eqb p noPlace e)) tt

@@ -1,106 +1,20 @@
 -- A round's bytes written in place: what is put into one field leaves the others, and what stands behind the round, as they were.
 use mathlib.Core.Path.{_≡_, refl, sym, ap, ap₂, _∙_}
 use mathlib.Core.List.{List, [], _∷_, _++_, append-assoc}
-use Prim.Native.Nat.{ℕ, zero, suc, _+_, _-_, _*_, _^_, _≤_, _<_}
+use Prim.Native.Nat.{ℕ, zero, suc, _+_, _*_, _^_, _≤_, _<_}
 use native.Mathlib.Nat.{add-zero, add-assoc, mul-suc, not-suc-le-zero}
 use native.Mathlib.Decide.{ℕ-discrete}
 use native.Mathlib.Omega.{arith}
-use lib.ListN.{length, getD, take, drop, set, length-append, length-drop}
-use lib.Seq.{drop-at, take-add, take-take, drop-drop, take-append-add, drop-append-add, length-take-le, getD-take, getD-drop, set-at, set-append-left, set-split, append-snoc}
+use lib.ListN.{length, getD, take, drop, set}
+use lib.Seq.{length-take-le, set-at, set-append-left}
 use Rattle.base.specs.Bytes.{be, bytes, part, putAt}
-use Rattle.base.proofs.Bytes.{bytes-length, be-at, be-bytes, part-length}
+use Rattle.base.proofs.Bytes.{bytes-length, be-at, be-bytes}
+use Rattle.base.proofs.Cuts.{part-put-front, length-put, drop-behind, put-one, cut, start, into, oneInto, cut-put, cut-set, getD-part, part-part}
 use Rattle.round.specs.declared.Round.{Round}
-use Rattle.round.proofs.Parts.{part-put-front, length-put}
 use Rattle.roundbytes.specs.Layout.{numbers, graphIn, roundIn, roundLen, Kept}
 use Rattle.roundbytes.proofs.Typing.{numbers-length}
 
--- ---- bytes put into a list
-drop-take : (m k : ℕ) (l : List ℕ) → m ≤ length l → drop m (take (m + k) l) ≡ take k (drop m l)
-drop-take m k l h = ap (drop m) (take-add m k l) ∙ drop-at (take m l) (take k (drop m l)) m (length-take-le m l h)
-
--- behind where they are put in
-drop-behind : (s v : List ℕ) (at f : ℕ) → at ≤ length s → at + length v ≤ f → drop f (putAt s at v) ≡ drop f s
-drop-behind s v at f h k =
-    let p = take at s ++ v in
-    let m = at + length v in
-    let l : length p ≡ m = length-append (take at s) v ∙ ap (λ (n : ℕ). n + length v) (length-take-le at s h) in
-    let e : f ≡ length p + (f - m) = omega arith in
-    let d : m + (f - m) ≡ f = omega arith in
-    ap (λ (n : ℕ). drop n (p ++ drop m s)) e ∙ drop-append-add p (drop m s) (f - m) ∙ drop-drop (f - m) m s ∙ ap (λ (n : ℕ). drop n s) d
-
--- into a part of it
-drop-inside : (s v : List ℕ) (f i : ℕ) → f + i ≤ length s → drop f (putAt s (f + i) v) ≡ putAt (drop f s) i v
-drop-inside s v f i h =
-    let a = take f s in
-    let b = take i (drop f s) in
-    let d = drop (f + i + length v) s in
-    let e : drop (i + length v) (drop f s) ≡ d = drop-drop (i + length v) f s ∙ ap (λ (n : ℕ). drop n s) (sym (add-assoc f i (length v))) in
-    ap (λ (x : List ℕ). drop f (x ++ v ++ d)) (take-add f i s)
-    ∙ ap (drop f) (ap (λ (x : List ℕ). x ++ d) (append-assoc a b v) ∙ append-assoc a (b ++ v) d)
-    ∙ drop-at a (b ++ v ++ d) f (length-take-le f s (omega arith))
-    ∙ ap (λ (x : List ℕ). b ++ v ++ x) (sym e)
-
-take-inside : (l v : List ℕ) (n i : ℕ) → i + length v ≤ n → i + length v ≤ length l → take n (putAt l i v) ≡ putAt (take n l) i v
-take-inside l v n i h k =
-    let p = take i l ++ v in
-    let m = i + length v in
-    let q : length p ≡ m = length-append (take i l) v ∙ ap (λ (j : ℕ). j + length v) (length-take-le i l (omega arith)) in
-    let e : n ≡ length p + (n - m) = omega arith in
-    let g : n ≡ m + (n - m) = omega arith in
-    let d : drop m (take n l) ≡ take (n - m) (drop m l) = ap (λ (j : ℕ). drop m (take j l)) g ∙ drop-take m (n - m) l k in
-    ap (λ (j : ℕ). take j (p ++ drop m l)) e ∙ take-append-add p (drop m l) (n - m)
-    ∙ sym (ap₂ (λ (x y : List ℕ). x ++ v ++ y) (take-take i n l (omega arith)) d)
-
-part-inside : (n : ℕ) (s v : List ℕ) (f i : ℕ) → i + length v ≤ n → f + n ≤ length s → part n (putAt s (f + i) v) f ≡ putAt (part n s f) i v
-part-inside n s v f i h k = ap (take n) (drop-inside s v f i (omega arith)) ∙ take-inside (drop f s) v n i h (omega (arith, length-drop f s))
-
--- one byte
-put-one : (l : List ℕ) (i x : ℕ) → i < length l → putAt l i (x ∷ []) ≡ set l i x
-put-one l i x h =
-    let e : i + 1 ≡ suc i = omega arith in
-    append-snoc (take i l) x (drop (i + 1) l) ∙ ap (λ (n : ℕ). take i l ++ x ∷ drop n l) e ∙ sym (set-split l i x h)
-
--- ---- a list cut into parts of given widths, and where part k begins
-abbrev pub cut : List ℕ → List ℕ → ℕ → List (List ℕ)
-cut [] s at = []
-cut (w ∷ ws) s at = part w s at ∷ cut ws s (at + w)
-
-abbrev pub start : List ℕ → ℕ → ℕ
-start [] k = 0
-start (w ∷ ws) zero = 0
-start (w ∷ ws) (suc k) = w + start ws k
-
--- bytes put into part k, from i on; and one byte
-abbrev pub into : List (List ℕ) → ℕ → ℕ → List ℕ → List (List ℕ)
-into l k i v = set l k (putAt (getD l k []) i v)
-
-abbrev pub oneInto : List (List ℕ) → ℕ → ℕ → ℕ → List (List ℕ)
-oneInto l k i x = set l k (set (getD l k []) i x)
-
-cut-behind : (ws s v : List ℕ) (at f : ℕ) → at ≤ length s → at + length v ≤ f → cut ws (putAt s at v) f ≡ cut ws s f
-cut-behind [] s v at f h k = refl
-cut-behind (w ∷ ws) s v at f h k = ap₂ _∷_ (ap (take w) (drop-behind s v at f h k)) (cut-behind ws s v at (f + w) h (omega arith))
-
-cut-put : (ws s v : List ℕ) (at k i : ℕ) → i + length v ≤ getD ws k 0 → at + start ws k + getD ws k 0 ≤ length s
-    → cut ws (putAt s (at + start ws k + i) v) at ≡ into (cut ws s at) k i v
-cut-put [] s v at k i h q = refl
-cut-put (w ∷ ws) s v at zero i h q =
-    let e : at + 0 + i ≡ at + i = omega arith in
-    ap (λ (n : ℕ). cut (w ∷ ws) (putAt s n v) at) e ∙ ap₂ _∷_ (part-inside w s v at i h (omega arith)) (cut-behind ws s v (at + i) (at + w) (omega arith) (omega arith))
-cut-put (w ∷ ws) s v at (suc k) i h q =
-    let e : at + (w + start ws k) + i ≡ at + w + start ws k + i = omega arith in
-    ap (λ (n : ℕ). cut (w ∷ ws) (putAt s n v) at) e
-    ∙ ap₂ _∷_ (part-put-front s v (at + w + start ws k + i) w at (omega arith) (omega arith)) (cut-put ws s v (at + w) k i h (omega arith))
-
-cut-length : (ws s : List ℕ) (at k : ℕ) → at + start ws k + getD ws k 0 ≤ length s → length (getD (cut ws s at) k []) ≡ getD ws k 0
-cut-length [] s at k h = refl
-cut-length (w ∷ ws) s at zero h = part-length w s at (omega arith)
-cut-length (w ∷ ws) s at (suc k) h = cut-length ws s (at + w) k (omega arith)
-
 -- ---- what is read in a part
-getD-part : (n : ℕ) (s : List ℕ) (f j : ℕ) → j < n → getD (part n s f) j 0 ≡ getD s (f + j) 0
-getD-part n s f j h = getD-take n (drop f s) j 0 h ∙ getD-drop f s j 0
-
 be-part : (w n : ℕ) (s : List ℕ) (f at : ℕ) → at + w ≤ n → be w (part n s f) at ≡ be w s (f + at)
 unfolding be
 be-part zero n s f at h = refl
@@ -114,13 +28,6 @@ numbers-part w (suc k) n s f at h =
     let e : w * suc k ≡ w * k + w = mul-suc w k in
     ap₂ (λ (x : List ℕ) (y : ℕ). x ++ (y ∷ [])) (numbers-part w k n s f at (omega arith))
     (be-part w n s f (at + w * k) (omega arith) ∙ ap (be w s) (sym (add-assoc f at (w * k))))
-
-part-part : (m n : ℕ) (s : List ℕ) (f at : ℕ) → at + m ≤ n → f + n ≤ length s → part m (part n s f) at ≡ part m s (f + at)
-part-part m n s f at h k =
-    let l = drop f s in
-    let e : n ≡ at + (n - at) = omega arith in
-    ap (λ (j : ℕ). part m (take j l) at) e ∙ ap (take m) (drop-take at (n - at) l (omega (arith, length-drop f s))) ∙ take-take m (n - at) (drop at l) (omega arith)
-    ∙ ap (take m) (drop-drop at f s)
 
 -- ---- a number of eight bytes put among others
 be-same : (s t : List ℕ) (f : ℕ) → part 8 t f ≡ part 8 s f → be 8 t f ≡ be 8 s f
@@ -247,11 +154,9 @@ pub one-next : (s t u : List ℕ) {l : List (List ℕ)} (k i x : ℕ) → roundL
     → 0 + start widths k + getD widths k 0 ≤ roundLen → Written s u (oneInto l k i x)
 one-next s t u k i x n w e h q =
     let m : length t ≡ length s = w .kept .0 in
-    let o : length (getD (parts t) k []) ≡ getD widths k 0 = cut-length widths t 0 k (omega arith) in
-    let z = put-next s t u (x ∷ []) k i n (record { parted = refl; kept = w .kept }) e (omega arith) q in
     record {
-      parted = z .parted ∙ ap (set (parts t) k) (put-one (getD (parts t) k []) i x (omega arith)) ∙ ap (λ (y : List (List ℕ)). oneInto y k i x) (w .parted);
-      kept = z .kept;
+      parted = ap parts (e ∙ put-one t (0 + start widths k + i) x (omega arith)) ∙ cut-set widths t 0 k i x h (omega arith) ∙ ap (λ (y : List (List ℕ)). oneInto y k i x) (w .parted);
+      kept = put-next s t u (x ∷ []) k i n w e (omega arith) q .kept;
     }
 
 -- the round then

@@ -104,3 +104,18 @@ pub fn is_crowded<'a>(
     }
     found
 }
+
+// Whether one of these places holds a proposal.
+pub fn is_offered<'a>(kinds: &'a [u8], places: &'a [u8]) -> bool
+    requires { ⌜ Whole (now kinds) × ((i : ℕ) → getD (now places) i 0 < 128) ⌝ }
+    ensures { λ r. ⌜ r ≡ any (isOffer (now (kinds .entry))) (now (places .entry)) ⌝ }
+{
+    let mut found = false;
+    let mut i: usize = 0;
+    while i < places.len() {
+        let k = size(places[i]);
+        found = (kinds[k] == 1) | found;
+        i += 1;
+    }
+    found
+}

@@ -29,10 +29,3 @@ pub struct Peaks {
 
 // How many keys ids have.
 pub const ID_KEYS: usize = 32;
-
-// The names of the places, with 255 for none, and the places by the key of their ids.
-pub struct NameIndex {
-    pub names: [u8; 256],
-    pub key_low: [u64; ID_KEYS],
-    pub key_high: [u64; ID_KEYS],
-}

@@ -2,7 +2,6 @@
 // two messages are the same exactly if their names are. A previous message is compared by its name too; 255 is the name of none.
 // Ids are found by a key, so that few places are compared.
 use crate::ID_KEYS;
-use crate::NameIndex;
 use crate::Places;
 use crate::sets::first_in;
 use crate::sets::put_place;
@@ -10,8 +9,9 @@ use crate::sets::without_first;
 use base::size;
 ghost use mathlib.Core.Path.{_≡_};
 ghost use Prim.Native.Nat.{_+_, _*_, _≤_, _<_};
-ghost use lib.ListN.{length};
-ghost use Rattle.scan.specs.Arrays.{Lowest, Named, idKeys, idKey, IdsIndexed};
+ghost use lib.ListN.{length, set};
+ghost use Rattle.base.specs.Bytes.{part};
+ghost use Rattle.scan.specs.Arrays.{Lowest, Named, idIn, idKeys, idKey, IdsIndexed};
 
 // The key of the id that begins at a byte: the low bits of its first byte; 0 where the bytes end before it.
 pub fn id_key(ids: &[u8], at: usize) -> usize
@@ -51,27 +51,36 @@ pub fn name_of<'a>(
     n
 }
 
-// The names of the first n places, and their ids by key.
-pub fn names_of(ids: &[u8], n: usize) -> NameIndex
-    requires { ⌜ (n ≤ 128) × (length (now ids) ≡ 4096) ⌝ }
-    ensures { λ r. ⌜ (length (r .names) ≡ 256) × (Named (now (ids .entry)) n (r .names) × IdsIndexed (now (ids .entry)) n (r .«key_low») (r .«key_high»)) ⌝ }
+// The name of place i is put among the names, and the place into the index of the ids: the lowest of the places up to it with its id.
+pub fn name_place(ids: &[u8], i: usize, names: &mut [u8], keys: &mut [u64]) -> usize
+    requires { ⌜ (i < 128) × ((length (now ids) ≡ 4096) × ((length (now names) ≡ 256) × ((length (now keys) ≡ idKeys + idKeys)
+        × IdsIndexed (now ids) i (part idKeys (now keys) 0) (part idKeys (now keys) idKeys)))) ⌝ }
+    ensures { λ r. ⌜ (now (names .exit) ≡ set (now (names .entry)) i r) × (Lowest (now (ids .entry)) i (idIn (now (ids .entry)) i) r
+        × IdsIndexed (now (ids .entry)) (i + 1) (part idKeys (now (keys .exit)) 0) (part idKeys (now (keys .exit)) idKeys)) ⌝ }
 {
-    let mut names = [0u8; 256];
+    let at = 32 * i;
+    let name = name_of(
+        ids,
+        i,
+        &ids[at..at + 32],
+        &keys[0..ID_KEYS],
+        &keys[ID_KEYS..2 * ID_KEYS],
+    );
+    names[i] = name as u8;
+    put_place(keys, ID_KEYS, id_key(ids, at), i);
+    name
+}
+
+// The names of the first n places, and their ids by key.
+pub fn name_places(ids: &[u8], n: usize, names: &mut [u8], keys: &mut [u64])
+    requires { ⌜ (n ≤ 128) × ((length (now ids) ≡ 4096) × ((length (now names) ≡ 256) × (length (now keys) ≡ idKeys + idKeys))) ⌝ }
+    ensures { λ _. ⌜ Named (now (ids .entry)) n (now (names .exit))
+        × IdsIndexed (now (ids .entry)) n (part idKeys (now (keys .exit)) 0) (part idKeys (now (keys .exit)) idKeys) ⌝ }
+{
     names[255] = 255;
-    let mut key_low = [0u64; ID_KEYS];
-    let mut key_high = [0u64; ID_KEYS];
     let mut i: usize = 0;
     while i < n {
-        let at = 32 * i;
-        let name = name_of(ids, i, &ids[at..at + 32], &key_low, &key_high);
-        names[i] = name as u8;
-        let k = id_key(ids, at);
-        put_place(&mut key_low, &mut key_high, k, i);
+        let _name = name_place(ids, i, names, keys);
         i += 1;
-    }
-    NameIndex {
-        names,
-        key_low,
-        key_high,
     }
 }

@@ -2,10 +2,11 @@
 use crate::Places;
 ghost use mathlib.Core.Path.{_≡_};
 ghost use mathlib.Core.Bool.{_&&_, _||_};
-ghost use Prim.Native.Nat.{ℕ, _≤_, _<_, min, max};
+ghost use Prim.Native.Nat.{ℕ, _+_, _≤_, _<_, min, max};
 ghost use lib.Dec.{T, eqb};
 ghost use lib.ListN.{length, getD};
 ghost use Rattle.base.specs.Sets.{has};
+ghost use Rattle.base.specs.Bytes.{part};
 ghost use Rattle.scan.specs.PlaceSets.{inSet, meets, First, Dropped};
 ghost use Rattle.scan.specs.Arrays.{Grown};
 
@@ -58,15 +59,15 @@ pub fn common(low: u64, high: u64, other_low: u64, other_high: u64) -> Places
     }
 }
 
-// Place j put into the set of key k.
-pub fn put_place(low: &mut [u64], high: &mut [u64], k: usize, j: usize)
-    requires { ⌜ (j < 128) × ((k < length (now low)) × (k < length (now high))) ⌝ }
-    ensures { λ _. ⌜ Grown (now (low .entry)) (now (high .entry)) (now (low .exit)) (now (high .exit)) × (T (inSet (getD (now (low .exit)) k 0) (getD (now (high .exit)) k 0) j)
-        × ((length (now (low .exit)) ≡ length (now (low .entry))) × (length (now (high .exit)) ≡ length (now (high .entry))))) ⌝ }
+// Place j put into the set of key k. Of the sets the low words stand in front, one for each key, and the high words behind them.
+pub fn put_place(sets: &mut [u64], keys: usize, k: usize, j: usize)
+    requires { ⌜ (j < 128) × ((k < keys) × (length (now sets) ≡ keys + keys)) ⌝ }
+    ensures { λ _. ⌜ Grown (part keys (now (sets .entry)) 0) (part keys (now (sets .entry)) keys) (part keys (now (sets .exit)) 0) (part keys (now (sets .exit)) keys)
+        × T (inSet (getD (part keys (now (sets .exit)) 0) k 0) (getD (part keys (now (sets .exit)) keys) k 0) j) ⌝ }
 {
-    let s = with_place(low[k], high[k], j, true);
-    low[k] = s.low;
-    high[k] = s.high;
+    let s = with_place(sets[k], sets[keys + k], j, true);
+    sets[k] = s.low;
+    sets[keys + k] = s.high;
 }
 
 fn smaller(x: usize, y: usize) -> usize

@@ -1,153 +1,134 @@
-use mathlib.Core.Path.{_≡_, refl, sym, subst}
-use mathlib.Core.List.{List}
-use Prim.Native.Nat.{ℕ, _+_, _*_, _<_}
-use native.Mathlib.Numerals.{add-one}
-use native.Mathlib.Omega.{arith}
-use lib.Dec.{T}
-use lib.ListN.{length, getD, set}
-use Rattle.graph.specs.Held.{heldGraph}
-use Rattle.scan.specs.PlaceSets.{inSet}
-use Rattle.scan.specs.Arrays.{Lowest, Named, idKey, IdsIndexed}
-use Rattle.scan.proofs.Naming.{lent, named-more, put-here, put-grown, indexed-more}
-use Rattle.derive.specs.Records.{Fit}
-use Rattle.derive.specs.Complete.{Complete}
-use Rattle.derive.proofs.Keeping.{marks-named}
-use borrow.Author.Needs.{needs, length-unmapped}
 use Rattle.derive.proofs.grow.grown.Statement.{statement}
 use Rattle.derive.proofs.grow.grown.Tie as tie
+use mathlib.Core.Path.{_≡_, sym, ap, subst, transport, _∙_}
+use mathlib.Core.List.{List}
+use Prim.Native.Nat.{ℕ, _+_, _<_}
+use native.Mathlib.Numerals.{add-one}
+use lib.ListN.{length}
+use Rattle.base.specs.Bytes.{part}
+use Rattle.base.proofs.Bytes.{part-length}
+use Rattle.base.proofs.Cuts.{part-part}
+use Rattle.graph.specs.Held.{heldGraph}
+use Rattle.scan.specs.Arrays.{Named, idKeys, IdsIndexed}
+use Rattle.scan.proofs.Naming.{named-more}
+use Rattle.derive.specs.Records.{tableIn, Fit}
+use Rattle.derive.specs.Lent.{Notes, Lent, notesIn, KnownIn, MarksIn, withNames}
+use Rattle.derive.specs.Complete.{Complete}
+use Rattle.derive.proofs.Keeping.{marks-named}
+use Rattle.derive.proofs.Lending.{names-lent, names-back, rooms-in}
+use borrow.Author.Needs.{needs}
+use native.Mathlib.Omega.{arith}
 
-mul-from : tie.Need-mul-from
-mul-from c = search needs
+sub-name-place : tie.Need-sub-name-place
+sub-name-place c = search needs
 
-add-name-of : tie.Need-add-name-of
-add-name-of c = search needs
+part-name-place-start : tie.Need-part-name-place-start
+part-name-place-start c = search needs
 
-sub-name-of : tie.Need-sub-name-of
-sub-name-of c = search needs
+part-name-place-end : tie.Need-part-name-place-end
+part-name-place-end c = search needs
 
-part-name-of-start : tie.Need-part-name-of-start
-part-name-of-start c = search needs
+sub-name-place-2 : tie.Need-sub-name-place-2
+sub-name-place-2 c = search needs
 
-part-name-of-end : tie.Need-part-name-of-end
-part-name-of-end c = search needs
+part-name-place-start-2 : tie.Need-part-name-place-start-2
+part-name-place-start-2 c = search needs
 
-name-of-requires : tie.Need-name-of-requires
-name-of-requires c κs = search needs
+part-name-place-end-2 : tie.Need-part-name-place-end-2
+part-name-place-end-2 c = search needs
 
-cast-notes : tie.Need-cast-notes
-cast-notes c = search needs
-
-element-write-notes : tie.Need-element-write-notes
-element-write-notes c = search needs
-
-id-key-requires : tie.Need-id-key-requires
-id-key-requires c κs = search needs
-
-mul-with-place : tie.Need-mul-with-place
-mul-with-place c = search needs
-
-element-copy-out-with-place : tie.Need-element-copy-out-with-place
-element-copy-out-with-place c = search needs
-
-mul-with-place-2 : tie.Need-mul-with-place-2
-mul-with-place-2 c = search needs
-
-element-copy-out-with-place-2 : tie.Need-element-copy-out-with-place-2
-element-copy-out-with-place-2 c = search needs
-
-with-place-requires : tie.Need-with-place-requires
-with-place-requires c κs = search needs
-
-mul-notes : tie.Need-mul-notes
-mul-notes c = search needs
-
-element-write-notes-2 : tie.Need-element-write-notes-2
-element-write-notes-2 c = search needs
-
-mul-notes-2 : tie.Need-mul-notes-2
-mul-notes-2 c = search needs
-
-element-write-notes-3 : tie.Need-element-write-notes-3
-element-write-notes-3 c = search needs
+name-place-requires : tie.Need-name-place-requires
+name-place-requires c κs =
+    let pre = c .before .before .before .before .before .before .before .before .before .before .before .before .before .pre in
+    let a = c .before .before .before .before .before .before .before .before .before .before .before .before .before .args in
+    let w = a .words .now in
+    let lent = pre .1 .1 .1 .1 .1 .1 .0 in
+    let low = part-part idKeys 64 w 640 0 (omega arith) (omega (arith, lent .0)) in
+    let high = part-part idKeys 64 w 640 idKeys (omega arith) (omega (arith, lent .0)) in (
+      omega (arith, pre .1 .1 .1 .1 .0 .held),
+      (
+        pre .1 .1 .1 .1 .1 .0 .idsFit,
+        (
+          part-length 256 (a .octets .now) 0 (omega (arith, lent .1)),
+          (part-length 64 w 640 (omega (arith, lent .0)), transport (λ i. IdsIndexed (a .ids .now) (a .n) (sym low i) (sym high i)) (pre .1 .1 .1 .1 .1 .1 .1 .1 .0)),
+        ),
+      ),
+    )
 
 add-extended : tie.Need-add-extended
 add-extended c = search needs
 
 extended-requires : tie.Need-extended-requires
-extended-requires c κs = let a = c .before .before .before .before .before .before .before .before .before .before .before .before .before .before .before .before .before .before .before .before .args in let pre = c .before .before .before .before .before .before .before .before .before .before .before .before .before .before .before .before .before .before .before .before .pre in let x = a .t1 in let before = pre .1 .1 .1 .0 in let lens = pre .1 .1 .1 .1 .1 .0 in (
-  pre .0,
-  (
-    pre .1 .0,
-    (
-      pre .1 .1 .0,
-      (
-        subst (λ (m : ℕ). Fit m (a .kinds .now) (a .previous .now) (a .counts .now) (a .references .now)) (sym (add-one (a .n))) (pre .1 .1 .1 .1 .0),
-        (
-          lens .kindsFit,
-          (
-            lens .signersFit,
-            (
-              lens .ballotsFit,
-              (
-                lens .previousFit,
-                (
-                  lens .countsFit,
-                  (
-                    lens .referencesFit,
-                    (
-                      omega arith,
-                      marks-named (a .n) (a .kinds .now) (a .signers .now) (x .names) (a .previous .now) (x .forklow) (x .forkhigh) (x .tops) (x .forms) (x .keylow) (x .keyhigh) (x .forked .low) (x .forked .high) (c .before .before .before .before .name-of .result) (before .held) (before .named) (pre .1 .1 .1 .1 .1 .1 .1 .1),
-                    ),
-                  ),
-                ),
-              ),
-            ),
-          ),
-        ),
-      ),
-    ),
-  ),
-)
+extended-requires c κs =
+    let a = c .before .before .before .before .before .before .before .before .before .before .before .before .before .before .before .before .before .before .before .before .args in
+    let pre = c .before .before .before .before .before .before .before .before .before .before .before .before .before .before .before .before .before .before .before .before .pre in
+    let named = c .before .before .before .before .before .before .name-place in
+    let w = a .words .now in
+    let b = a .octets .now in
+    let ns = named .last .1 .1 .0 in
+    let ks = named .last .1 .1 .1 .0 in
+    let kn : length ns ≡ length (part 256 b 0) = named .kept .1 .1 .0 in
+    let kk : length ks ≡ length (part 64 w 640) = named .kept .1 .1 .1 .0 in
+    let lent : Lent w b = pre .1 .1 .1 .1 .1 .1 .0 in
+    let e = names-back w b ns ks lent kn kk in
+    let x = notesIn w b in
+    let before = pre .1 .1 .1 .0 in
+    let lens = pre .1 .1 .1 .1 .1 .0 in
+    let l = names-lent w b ns ks lent kn kk in
+    let marks = marks-named (a .n) (a .kinds .now) (a .signers .now) (x .names) (a .previous .now) (x .forklow) (x .forkhigh) (x .tops) (x .forms) (x .keylow) (x .keyhigh) (x .forkedlow) (x .forkedhigh) (named .result) (before .held) (before .named) (pre .1 .1 .1 .1 .1 .1 .1 .1 .1) in
+    (pre .0, (pre .1 .0, (pre .1 .1 .0, (subst (λ (m : ℕ). Fit m (a .kinds .now) (a .previous .now) (a .counts .now) (a .references .now)) (sym (add-one (a .n))) (pre .1 .1 .1 .1 .0), (lens .kindsFit, (lens .signersFit, (lens .ballotsFit, (lens .previousFit, (lens .countsFit, (lens .referencesFit, (omega arith, (l, subst (MarksIn (a .n) (a .kinds .now) (a .signers .now) (a .previous .now)) (sym e) (subst (λ (y : List ℕ). MarksIn (a .n) (a .kinds .now) (a .signers .now) (a .previous .now) (withNames x y (part 32 ks 0) (part 32 ks 32))) (sym (named .ensures .0)) marks)))))))))))))
+
+same-length : tie.Need-same-length
+same-length c = search needs
+
+same-length-2 : tie.Need-same-length-2
+same-length-2 c = search needs
 
 returns : tie.Need-returns
-returns c = let a = c .before .before .before .before .before .before .before .before .before .before .before .before .before .before .before .before .before .before .before .before .before .args in let pre = c .before .before .before .before .before .before .before .before .before .before .before .before .before .before .before .before .before .before .before .before .before .pre in let x = a .t1 in let comp = pre .1 .1 .1 .1 .1 .1 in let few : a .n < 128 = omega (arith, pre .1 .1 .1 .1 .0 .held) in let name = c .before .before .before .before .before .name-of .result in let good = c .before .before .before .before .before .before .before .before .before .before .before .before .before .before .before .before .before .before .before .before .before .good .0 in let size : length (x .names) ≡ 256 = search (length-unmapped, good) in let s = c .before .with-place .result in let k = c .before .before .before .before .id-key .result in let e = c .before .before .before .before .id-key .ensures in let more = c .extended in
-    let lk : k < length (x .idlow) = omega (arith, e, c .before .before .before .before .before .before .before .before .name-of-arg3 .given .0) in
-    let hk : k < length (x .idhigh) = omega (arith, e, c .before .before .before .before .before .before .name-of-arg5 .given .0) in
-    let named : Named (a .ids .now) (a .n + 1) (set (x .names) (a .n) name) = named-more (a .ids .now) (a .n) (x .names) name few size (comp .0 .0) (subst (λ (y : List ℕ). Lowest (a .ids .now) (a .n) y name) (lent (a .ids .now) (a .n)) (c .before .before .before .before .before .name-of .ensures)) in
-    let index : IdsIndexed (a .ids .now) (a .n + 1) (set (x .idlow) k (s .low)) (set (x .idhigh) k (s .high)) =
-    indexed-more (a .n) (λ j. idKey (a .ids .now) (32 * j)) (λ j. idKey (a .ids .now) (32 * j)) (x .idlow) (x .idhigh) (set (x .idlow) k (s .low)) (set (x .idhigh) k (s .high)) few
-    (put-grown k (s .low) (s .high) (a .n) (x .idlow) (x .idhigh) lk hk (c .before .with-place .ensures)) (λ j h. refl) (comp .1 .0)
-    (subst (λ (i : ℕ). T (inSet (getD (set (x .idlow) k (s .low)) i 0) (getD (set (x .idhigh) k (s .high)) i 0) (a .n))) e (put-here k (s .low) (s .high) (a .n) (x .idlow) (x .idhigh) lk hk (c .before .with-place .ensures) few)) in
-    subst (λ (m : ℕ). Complete (heldGraph (a .acceptors) (a .l) (a .lists .now) (a .masks .now)) (a .ids .now) (a .kinds .now) (a .signers .now) (a .ballots .now) (a .previous .now) (a .counts .now) (a .references .now) m (more .result)) (add-one (a .n)) (
-      (subst (λ (y : List ℕ). Named (a .ids .now) (a .n + 1) y) (sym (more .ensures .0 .0)) named, more .ensures .1 .1 (a .ids .now) named (comp .0 .1)),
+returns c =
+    let a = c .before .before .before .before .before .before .before .before .before .before .before .before .before .before .before .before .before .before .before .before .before .before .before .before .before .args in
+    let pre = c .before .before .before .before .before .before .before .before .before .before .before .before .before .before .before .before .before .before .before .before .before .before .before .before .before .pre in
+    let named = c .before .before .before .before .before .before .before .before .before .before .before .name-place in
+    let w = a .words .now in
+    let b = a .octets .now in
+    let ns = named .last .1 .1 .0 in
+    let ks = named .last .1 .1 .1 .0 in
+    let kn : length ns ≡ length (part 256 b 0) = named .kept .1 .1 .0 in
+    let kk : length ks ≡ length (part 64 w 640) = named .kept .1 .1 .1 .0 in
+    let lent : Lent w b = pre .1 .1 .1 .1 .1 .1 .0 in
+    let e = names-back w b ns ks lent kn kk in
+    let x = notesIn w b in
+    let comp = pre .1 .1 .1 .1 .1 .1 .1 in
+    let few : a .n < 128 = omega (arith, pre .1 .1 .1 .1 .0 .held) in
+    let here : Named (a .ids .now) (a .n + 1) ns =
+    subst (λ (y : List ℕ). Named (a .ids .now) (a .n + 1) y) (sym (named .ensures .0)) (named-more (a .ids .now) (a .n) (x .names) (named .result) few (rooms-in w b lent .names) (comp .0 .0) (named .ensures .1 .0)) in
+    let more = c .before .before .before .before .extended in
+    let same = more .ensures .0 in
+    let names = same .0 ∙ ap (λ (z : Notes). z .names) e in
+    let low = same .1 .0 ∙ ap (λ (z : Notes). z .idlow) e in
+    let high = same .1 .1 ∙ ap (λ (z : Notes). z .idhigh) e in
+    subst (λ (m : ℕ). Complete (heldGraph (a .acceptors) (a .l) (a .lists .now) (a .masks .now)) (a .ids .now) (a .kinds .now) (a .signers .now) (a .ballots .now) (a .previous .now) (a .counts .now) (a .references .now) m (notesIn (more .last .0) (more .last .1 .0))) (add-one (a .n)) (
       (
-        subst (λ (y : List ℕ). IdsIndexed (a .ids .now) (a .n + 1) y (more .result .idhigh)) (sym (more .ensures .0 .1 .0)) (subst (λ (y : List ℕ). IdsIndexed (a .ids .now) (a .n + 1) (set (x .idlow) k (s .low)) y) (sym (more .ensures .0 .1 .1)) index),
-        more .ensures .1 .0,
+        subst (λ (y : List ℕ). Named (a .ids .now) (a .n + 1) y) (sym names) here,
+        more .ensures .1 .1 (a .ids .now) (subst (λ (z : Notes). Named (a .ids .now) (a .n + 1) (z .names)) (sym e) here)
+            (subst (KnownIn (heldGraph (a .acceptors) (a .l) (a .lists .now) (a .masks .now)) (tableIn (a .ids .now) (a .kinds .now) (a .signers .now) (a .ballots .now) (a .previous .now) (a .counts .now) (a .references .now) (a .n)) (a .kinds .now) (a .signers .now)) (sym e) (comp .0 .1)),
       ),
+      (transport (λ i. IdsIndexed (a .ids .now) (a .n + 1) (sym low i) (sym high i)) (named .ensures .1 .1), more .ensures .1 .0),
     )
 
 pub grown-spec : {M : Type 1} → statement M
 grown-spec =
     tie.close
     (tie.spec
-    mul-from
-    add-name-of
-    sub-name-of
-    part-name-of-start
-    part-name-of-end
-    name-of-requires
-    cast-notes
-    element-write-notes
-    id-key-requires
-    mul-with-place
-    element-copy-out-with-place
-    mul-with-place-2
-    element-copy-out-with-place-2
-    with-place-requires
-    mul-notes
-    element-write-notes-2
-    mul-notes-2
-    element-write-notes-3
+    sub-name-place
+    part-name-place-start
+    part-name-place-end
+    sub-name-place-2
+    part-name-place-start-2
+    part-name-place-end-2
+    name-place-requires
     add-extended
     extended-requires
+    same-length
+    same-length-2
     returns)

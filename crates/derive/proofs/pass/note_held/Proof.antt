@@ -97,7 +97,7 @@ returns-2 : tie.Need-returns-2
 returns-2 c = let a = c .before .before .before .before .before .before .before .before .before .before .before .before .before .before .before .before .before .before .before .before .before .before .before .before .before .before .before .before .before .before .before .before .before .args in let pre = c .before .before .before .before .before .before .before .before .before .before .before .before .before .before .before .before .before .before .before .before .before .before .before .before .before .before .before .before .before .before .before .before .before .pre in let fit = pre .1 .0 in let s = c .before .before .before .before .before .before .before .before .before .before .size in let at = c .before .before .before .before .before .before .before .before .size2 .result in let ey = c .before .before .before .before .before .before .before .before .size2 .ensures .0 in
     λ ids named kn. held-noted (heldGraph (a .acceptors) (a .l) (a .lists .now) (a .masks .now)) ids (a .kinds .now) (a .signers .now) (a .ballots .now) (a .previous .now) (a .counts .now) (a .references .now) (a .n) fit (a .p) (pre .0) (ne-eqb (getD (a .kinds .now) (a .p) 0) 1 (c .before .before .before .before .before .before .before .before .before .before .before .before .if1 .left)) at ey (take (128 * a .p + s .result - 128 * a .p) (drop (128 * a .p) (a .references .now))) (lent-references (a .counts .now) (a .references .now) (a .p) (s .result) (s .ensures .0)) (c .before .before .before .step .result)
     (c .before .before .before .step .ensures (tableIn ids (a .kinds .now) (a .signers .now) (a .ballots .now) (a .previous .now) (a .counts .now) (a .references .now) (a .p)) (idIn ids (a .p)) (namedIn ids at) (length-tabulate (a .p) (recordIn ids (a .kinds .now) (a .signers .now) (a .ballots .now) (a .previous .now) (a .counts .now) (a .references .now))) kn
-    (held-candidate (heldGraph (a .acceptors) (a .l) (a .lists .now) (a .masks .now)) ids (a .kinds .now) (a .signers .now) (a .ballots .now) (a .previous .now) (a .counts .now) (a .references .now) (a .n) fit (a .p) (pre .0) (ne-eqb (getD (a .kinds .now) (a .p) 0) 1 (c .before .before .before .before .before .before .before .before .before .before .before .before .if1 .left)) (a .names .now) named at ey (take (128 * a .p + s .result - 128 * a .p) (drop (128 * a .p) (a .references .now))) (lent-references (a .counts .now) (a .references .now) (a .p) (s .result) (s .ensures .0))))
+    (held-candidate ids (a .kinds .now) (a .signers .now) (a .ballots .now) (a .previous .now) (a .counts .now) (a .references .now) (a .n) fit (a .p) (pre .0) (ne-eqb (getD (a .kinds .now) (a .p) 0) 1 (c .before .before .before .before .before .before .before .before .before .before .before .before .if1 .left)) (a .names .now) named at ey (take (128 * a .p + s .result - 128 * a .p) (drop (128 * a .p) (a .references .now))) (lent-references (a .counts .now) (a .references .now) (a .p) (s .result) (s .ensures .0))))
     (c .before .with-place2 .result .low) (c .before .with-place2 .result .high) (c .before .with-place2 .ensures)
 
 pub note-held-spec : {M : Type 1} → statement M

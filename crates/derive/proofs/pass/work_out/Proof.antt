@@ -1,58 +1,104 @@
-use mathlib.Core.Path.{sym, subst, refl}
-use Prim.Native.Nat.{ℕ}
+use Rattle.derive.proofs.pass.work_out.Statement.{statement}
+use Rattle.derive.proofs.pass.work_out.Tie as tie
+use mathlib.Core.Path.{_≡_, sym, ap, subst, transport, _∙_}
 use mathlib.Core.List.{List}
+use Prim.Native.Nat.{ℕ}
+use lib.ListN.{length}
+use Rattle.base.specs.Bytes.{part}
+use Rattle.base.proofs.Bytes.{part-length}
 use Rattle.graph.specs.Held.{heldGraph}
 use Rattle.protocol.specs.Table.{tabulate}
 use Rattle.scan.specs.Arrays.{Named, IdsIndexed}
+use Rattle.derive.specs.Notes.{keys}
+use Rattle.derive.specs.Lent.{Notes, Lent, MarksIn}
 use Rattle.derive.proofs.Growing.{known-none}
 use Rattle.derive.proofs.Walking.{marks-none}
+use Rattle.derive.proofs.Lending.{names-lent, names-back}
 use borrow.Author.Needs.{needs}
 use native.Mathlib.Omega.{arith}
-use Rattle.derive.proofs.pass.work_out.Statement.{statement}
-use Rattle.derive.proofs.pass.work_out.Tie as tie
 
-names-of-requires : tie.Need-names-of-requires
-names-of-requires c κs = search needs
+sub-name-places : tie.Need-sub-name-places
+sub-name-places c = search needs
+
+part-name-places-start : tie.Need-part-name-places-start
+part-name-places-start c = search needs
+
+part-name-places-end : tie.Need-part-name-places-end
+part-name-places-end c = search needs
+
+sub-name-places-2 : tie.Need-sub-name-places-2
+sub-name-places-2 c = search needs
+
+part-name-places-start-2 : tie.Need-part-name-places-start-2
+part-name-places-start-2 c = search needs
+
+part-name-places-end-2 : tie.Need-part-name-places-end-2
+part-name-places-end-2 c = search needs
+
+name-places-requires : tie.Need-name-places-requires
+name-places-requires c κs = let pre = c .before .before .before .before .before .before .before .before .before .before .before .before .before .pre in let a = c .before .before .before .before .before .before .before .before .before .before .before .before .before .args in (pre .1 .1 .1 .0 .held, (pre .1 .1 .1 .1 .0 .idsFit, (part-length 256 (a .octets .now) 0 (omega (arith, pre .1 .1 .1 .1 .1 .1)), part-length 64 (a .words .now) 640 (omega (arith, pre .1 .1 .1 .1 .1 .0)))))
 
 extended-requires : tie.Need-extended-requires
-extended-requires c κs = let a = c .before .before .before .before .before .before .before .before .before .before .before .before .before .args in let pre = c .before .before .before .before .before .before .before .before .before .before .before .before .before .pre in let lens = pre .1 .1 .1 .1 in (
-  pre .0,
-  (
-    pre .1 .0,
-    (
-      pre .1 .1 .0,
-      (
-        pre .1 .1 .1 .0,
-        (
-          lens .kindsFit,
-          (
-            lens .signersFit,
-            (
-              lens .ballotsFit,
-              (
-                lens .previousFit,
-                (lens .countsFit, (lens .referencesFit, (omega arith, marks-none (a .kinds .now) (a .signers .now) (c .before .before .before .names-of .result .names) (a .previous .now) _ _ _ _ _ _ refl refl))),
-              ),
-            ),
-          ),
-        ),
-      ),
-    ),
-  ),
-)
+extended-requires c κs =
+    let a = c .before .before .before .before .before .before .before .before .before .before .before .before .before .before .before .before .before .before .before .before .args in
+    let pre = c .before .before .before .before .before .before .before .before .before .before .before .before .before .before .before .before .before .before .before .before .pre in
+    let named = c .before .before .before .before .before .before .name-places in
+    let w = a .words .now in
+    let b = a .octets .now in
+    let ns = named .last .1 .1 .0 in
+    let ks = named .last .1 .1 .1 .0 in
+    let kn : length ns ≡ length (part 256 b 0) = named .kept .1 .1 .0 in
+    let kk : length ks ≡ length (part 64 w 640) = named .kept .1 .1 .1 .0 in
+    let lent : Lent w b = pre .1 .1 .1 .1 .1 in
+    let e = names-back w b ns ks lent kn kk in
+    let lens = pre .1 .1 .1 .1 .0 in
+    let l = names-lent w b ns ks lent kn kk in
+    (pre .0, (pre .1 .0, (pre .1 .1 .0, (pre .1 .1 .1 .0, (lens .kindsFit, (lens .signersFit, (lens .ballotsFit, (lens .previousFit, (lens .countsFit, (lens .referencesFit, (omega arith, (l, subst (MarksIn 0 (a .kinds .now) (a .signers .now) (a .previous .now)) (sym e) (marks-none (a .kinds .now) (a .signers .now) ns (a .previous .now) _ _ _ _ _ _ _ _ (part-length keys w 704 (omega (arith, lent .0))) (part-length keys w 776 (omega (arith, lent .0))))))))))))))))
+
+same-length : tie.Need-same-length
+same-length c = search needs
+
+same-length-2 : tie.Need-same-length-2
+same-length-2 c = search needs
 
 returns : tie.Need-returns
 unfolding tabulate
-returns c = let a = c .before .before .before .before .before .before .before .before .before .before .before .before .before .before .args in let names = c .before .before .before .before .names-of .ensures .1 in let more = c .extended in (
-  (
-    subst (λ (y : List ℕ). Named (a .ids .now) (a .n) y) (sym (more .ensures .0 .0)) (names .0),
-    more .ensures .1 .1 (a .ids .now) (names .0) (known-none (heldGraph (a .acceptors) (a .l) (a .lists .now) (a .masks .now)) (a .kinds .now) (a .signers .now) _ _ _ _ _ _ _ _),
-  ),
-  (
-    subst (λ (y : List ℕ). IdsIndexed (a .ids .now) (a .n) y (more .result .idhigh)) (sym (more .ensures .0 .1 .0)) (subst (λ (y : List ℕ). IdsIndexed (a .ids .now) (a .n) (c .before .before .before .before .names-of .result .«key_low») y) (sym (more .ensures .0 .1 .1)) (names .1)),
-    more .ensures .1 .0,
-  ),
-)
+returns c =
+    let a = c .before .before .before .before .before .before .before .before .before .before .before .before .before .before .before .before .before .before .before .before .before .before .before .before .before .args in
+    let pre = c .before .before .before .before .before .before .before .before .before .before .before .before .before .before .before .before .before .before .before .before .before .before .before .before .before .pre in
+    let named = c .before .before .before .before .before .before .before .before .before .before .before .name-places in
+    let w = a .words .now in
+    let b = a .octets .now in
+    let ns = named .last .1 .1 .0 in
+    let ks = named .last .1 .1 .1 .0 in
+    let kn : length ns ≡ length (part 256 b 0) = named .kept .1 .1 .0 in
+    let kk : length ks ≡ length (part 64 w 640) = named .kept .1 .1 .1 .0 in
+    let lent : Lent w b = pre .1 .1 .1 .1 .1 in
+    let e = names-back w b ns ks lent kn kk in
+    let more = c .before .before .before .before .extended in
+    let same = more .ensures .0 in
+    let names = same .0 ∙ ap (λ (z : Notes). z .names) e in
+    let low = same .1 .0 ∙ ap (λ (z : Notes). z .idlow) e in
+    let high = same .1 .1 ∙ ap (λ (z : Notes). z .idhigh) e in (
+      (
+        subst (λ (y : List ℕ). Named (a .ids .now) (a .n) y) (sym names) (named .ensures .0),
+        more .ensures .1 .1 (a .ids .now) (subst (λ (z : Notes). Named (a .ids .now) (a .n) (z .names)) (sym e) (named .ensures .0)) (known-none (heldGraph (a .acceptors) (a .l) (a .lists .now) (a .masks .now)) (a .kinds .now) (a .signers .now) _ _ _ _ _ _ _ _),
+      ),
+      (transport (λ i. IdsIndexed (a .ids .now) (a .n) (sym low i) (sym high i)) (named .ensures .1), more .ensures .1 .0),
+    )
 
 pub work-out-spec : {M : Type 1} → statement M
-work-out-spec = tie.close (tie.spec names-of-requires extended-requires returns)
+work-out-spec =
+    tie.close
+    (tie.spec
+    sub-name-places
+    part-name-places-start
+    part-name-places-end
+    sub-name-places-2
+    part-name-places-start-2
+    part-name-places-end-2
+    name-places-requires
+    extended-requires
+    same-length
+    same-length-2
+    returns)

@@ -45,9 +45,9 @@ slice-aggregate-is-sent-2 c = search needs
 
 is-sent-requires : tie.Need-is-sent-requires
 is-sent-requires c κs =
-    let a = c .before .before .before .before .before .before .before .before .before .before .before .before .before .before .args in
+    let a = c .before .before .before .before .before .before .before .before .before .before .before .before .before .before .before .before .args in
     let r = roundIn (a .s .now) in
-    let p = c .before .before .before .before .before .before .before .before .before .before .before .before .before .before .pre in
+    let p = c .before .before .before .before .before .before .before .before .before .before .before .before .before .before .before .before .pre in
     let can = p .1 .1 .1 .0 in
     let m = fits-out r (can .fit) .most in
     let here = c .before .before .before .before .before .before .before .before .reply-to .ensures in
@@ -58,9 +58,9 @@ is-sent-requires c κs =
 
 join-requires : tie.Need-join-requires
 join-requires c κs =
-    let p = c .before .before .before .before .before .before .before .before .before .before .before .before .before .before .before .before .before .pre in
+    let p = c .before .before .before .before .before .before .before .before .before .before .before .before .before .before .before .before .before .before .before .pre in
     let can = p .1 .1 .1 .0 in
-    let m = fits-out (roundIn (c .before .before .before .before .before .before .before .before .before .before .before .before .before .before .before .before .before .args .s .now)) (can .fit) .most in
+    let m = fits-out (roundIn (c .before .before .before .before .before .before .before .before .before .before .before .before .before .before .before .before .before .before .before .args .s .now)) (can .fit) .most in
     let h = can .here in
     (p .0, omega arith)
 
@@ -69,7 +69,7 @@ same-length c = search needs
 
 returns : tie.Need-returns
 returns c =
-    let a = c .before .before .before .before .before .before .before .before .before .before .before .before .before .before .before .before .before .before .before .before .args in
+    let a = c .before .before .before .before .before .before .before .before .before .before .before .before .before .before .before .before .before .before .before .before .before .before .args in
     let r = roundIn (a .s .now) in
     let x = c .before .before .before .before .before .before .before .before .before .before .before .before .before .before .reply-to .result in
     let here = c .before .before .before .before .before .before .before .before .before .before .before .before .before .before .reply-to .ensures in
@@ -103,9 +103,9 @@ slice-aggregate-send-2 c = search needs
 
 send-requires : tie.Need-send-requires
 send-requires c κs =
-    let a = c .before .before .before .before .before .before .before .before .before .before .before .before .before .before .before .before .before .before .before .before .before .before .before .before .before .args in
+    let a = c .before .before .before .before .before .before .before .before .before .before .before .before .before .before .before .before .before .before .before .before .before .before .before .before .before .before .before .args in
     let r = roundIn (a .s .now) in
-    let p = c .before .before .before .before .before .before .before .before .before .before .before .before .before .before .before .before .before .before .before .before .before .before .before .before .before .pre in
+    let p = c .before .before .before .before .before .before .before .before .before .before .before .before .before .before .before .before .before .before .before .before .before .before .before .before .before .before .before .pre in
     let can = p .1 .1 .1 .0 in
     let m = fits-out r (can .fit) .most in
     let here = c .before .before .before .before .before .before .before .before .before .before .before .before .before .before .before .before .before .before .before .reply-to .ensures in
@@ -123,7 +123,7 @@ same-length-3 c = search needs
 
 returns-2 : tie.Need-returns-2
 returns-2 c =
-    let a = c .before .before .before .before .before .before .before .before .before .before .before .before .before .before .before .before .before .before .before .before .before .before .before .before .before .before .before .before .args in
+    let a = c .before .before .before .before .before .before .before .before .before .before .before .before .before .before .before .before .before .before .before .before .before .before .before .before .before .before .before .before .before .before .args in
     let r = roundIn (a .s .now) in
     let x = c .before .before .before .before .before .before .before .before .before .before .before .before .before .before .before .before .before .before .before .before .before .before .reply-to .result in
     let here = c .before .before .before .before .before .before .before .before .before .before .before .before .before .before .before .before .before .before .before .before .before .before .reply-to .ensures in

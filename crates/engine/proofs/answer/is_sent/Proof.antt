@@ -35,15 +35,15 @@ cast-judge c = search needs
 
 judge-requires : tie.Need-judge-requires
 judge-requires c κs =
-    let a = c .before .before .before .before .before .before .before .args in
+    let a = c .before .before .before .before .before .before .before .before .before .args in
     let r = roundIn (a .s .now) in
-    let p = c .before .before .before .before .before .before .before .pre in
+    let p = c .before .before .before .before .before .before .before .before .before .pre in
     let fit = p .1 .1 .1 .0 .fit in
     (p .0, (p .1 .0, (fit, (p .1 .1 .0, (place-cases r (r .last) (fits-out r fit .last), λ j m. p .1 .1 .1 .1 j (subst (λ (l : List ℕ). j ∈ l) (front-part (a .count) (a .places .now)) m))))))
 
 returns : tie.Need-returns
 returns c =
-    let a = c .before .before .before .before .before .before .before .before .before .args in
+    let a = c .before .before .before .before .before .before .before .before .before .before .before .args in
     let r = roundIn (a .s .now) in
     let o : c .before .before .before .before .word16 .result ≡ r .own = c .before .before .before .before .word16 .ensures in
     let x = c .before .judge .result in

@@ -17,15 +17,29 @@ use Rattle.engine.proofs.answer.process.Tie as tie
 word16-requires : tie.Need-word16-requires
 word16-requires c κs = search needs
 
+slice-aggregate-notes-of : tie.Need-slice-aggregate-notes-of
+slice-aggregate-notes-of c = search needs
+
+slice-aggregate-notes-of-2 : tie.Need-slice-aggregate-notes-of-2
+slice-aggregate-notes-of-2 c = search needs
+
 notes-of-requires : tie.Need-notes-of-requires
-notes-of-requires c κs = search needs
+notes-of-requires c κs =
+    let p = c .before .before .before .before .before .before .before .before .before .pre in
+    (p .0, (p .1 .0, (p .1 .1 .fit, search needs)))
+
+slice-aggregate-answer : tie.Need-slice-aggregate-answer
+slice-aggregate-answer c = search needs
+
+slice-aggregate-answer-2 : tie.Need-slice-aggregate-answer-2
+slice-aggregate-answer-2 c = search needs
 
 answer-requires : tie.Need-answer-requires
 answer-requires c κs =
-    let p = c .before .before .before .before .before .before .before .before .before .before .pre in
-    let e : c .before .before .before .before .before .word16 .result ≡ roundIn (c .before .before .before .before .before .before .before .before .before .before .args .s .now) .own = c .before .before .before .before .before .word16 .ensures in
-    let t = c .before .before .before .before .if1 .taken in
-    (p .0, (p .1 .0, (c .before .before .notes-of .ensures, (p .1 .1, omega arith))))
+    let p = c .before .before .before .before .before .before .before .before .before .before .before .before .before .before .before .before .pre in
+    let e : c .before .before .before .before .before .before .before .before .before .before .before .word16 .result ≡ roundIn (c .before .before .before .before .before .before .before .before .before .before .before .before .before .before .before .before .args .s .now) .own = c .before .before .before .before .before .before .before .before .before .before .before .word16 .ensures in
+    let t = c .before .before .before .before .before .before .before .before .before .before .if1 .taken in
+    (p .0, (p .1 .0, (c .before .before .before .before .before .before .notes-of .ensures, (p .1 .1, omega arith))))
 
 same-length : tie.Need-same-length
 same-length c = search needs
@@ -36,11 +50,11 @@ same-length-2 c = search needs
 returns : tie.Need-returns
 unfolding processed
 returns c =
-    let a = c .before .before .before .before .before .before .before .before .before .before .before .before .before .before .before .args in
+    let a = c .before .before .before .before .before .before .before .before .before .before .before .before .before .before .before .before .before .before .before .before .before .args in
     let r = roundIn (a .s .now) in
-    let e : c .before .before .before .before .before .before .before .before .before .before .word16 .result ≡ r .own = c .before .before .before .before .before .before .before .before .before .before .word16 .ensures in
-    let t = c .before .before .before .before .before .before .before .before .before .if1 .taken in (
-      gives-first (votes r) (answered sha256 r (a .p) (replyBytes r (a .p))) (record { outcome = Accepted; round = r; reply = [] }) (left (c .before .before .before .before .answer .result) (c .before .before .before .before .answer .last .0)) (a .reply .now) (c .before .before .before .before .answer .last .1 .1 .1 .1 .0)
+    let e : c .before .before .before .before .before .before .before .before .before .before .before .before .before .before .before .before .word16 .result ≡ r .own = c .before .before .before .before .before .before .before .before .before .before .before .before .before .before .before .before .word16 .ensures in
+    let t = c .before .before .before .before .before .before .before .before .before .before .before .before .before .before .before .if1 .taken in (
+      gives-first (votes r) (answered sha256 r (a .p) (replyBytes r (a .p))) (record { outcome = Accepted; round = r; reply = [] }) (left (c .before .before .before .before .answer .result) (c .before .before .before .before .answer .last .0)) (a .reply .now) (c .before .before .before .before .answer .last .1 .1 .1 .1 .1 .0)
           (lt-ltb (r .own) 256 (omega arith)) (c .before .before .before .before .answer .ensures .0),
       c .before .before .before .before .answer .ensures .1,
     )
@@ -65,7 +79,11 @@ process-spec =
     tie.close
     (tie.spec
     word16-requires
+    slice-aggregate-notes-of
+    slice-aggregate-notes-of-2
     notes-of-requires
+    slice-aggregate-answer
+    slice-aggregate-answer-2
     answer-requires
     same-length
     same-length-2

@@ -19,15 +19,15 @@ word16-requires c κs = search needs
 
 notes-more-requires : tie.Need-notes-more-requires
 notes-more-requires c κs =
-    let p = c .before .before .before .before .before .before .before .pre in
+    let p = c .before .before .before .before .before .before .before .before .before .before .before .pre in
     (p .0, (p .1 .0, (p .1 .1 .1 .fit, p .1 .1 .0)))
 
 answer-requires : tie.Need-answer-requires
 answer-requires c κs =
-    let p = c .before .before .before .before .before .before .before .before .before .before .pre in
-    let e : c .before .before .before .before .before .word16 .result ≡ roundIn (c .before .before .before .before .before .before .before .before .before .before .args .s .now) .own = c .before .before .before .before .before .word16 .ensures in
-    let t = c .before .before .before .before .if1 .taken in
-    (p .0, (p .1 .0, (c .before .before .notes-more .ensures, (p .1 .1 .1, omega arith))))
+    let p = c .before .before .before .before .before .before .before .before .before .before .before .before .before .before .before .before .before .before .before .before .pre in
+    let e : c .before .before .before .before .before .before .before .before .before .before .before .before .before .word16 .result ≡ roundIn (c .before .before .before .before .before .before .before .before .before .before .before .before .before .before .before .before .before .before .before .before .args .s .now) .own = c .before .before .before .before .before .before .before .before .before .before .before .before .before .word16 .ensures in
+    let t = c .before .before .before .before .before .before .before .before .before .before .before .before .if1 .taken in
+    (p .0, (p .1 .0, (c .before .before .before .before .before .before .before .before .notes-more .ensures, (p .1 .1 .1, omega arith))))
 
 same-length : tie.Need-same-length
 same-length c = search needs
@@ -35,25 +35,31 @@ same-length c = search needs
 same-length-2 : tie.Need-same-length-2
 same-length-2 c = search needs
 
+same-length-3 : tie.Need-same-length-3
+same-length-3 c = search needs
+
+same-length-4 : tie.Need-same-length-4
+same-length-4 c = search needs
+
 returns : tie.Need-returns
 unfolding processed
 returns c =
-    let a = c .before .before .before .before .before .before .before .before .before .before .before .before .before .before .before .args in
+    let a = c .before .before .before .before .before .before .before .before .before .before .before .before .before .before .before .before .before .before .before .before .before .before .before .before .before .args in
     let r = roundIn (a .s .now) in
-    let e : c .before .before .before .before .before .before .before .before .before .before .word16 .result ≡ r .own = c .before .before .before .before .before .before .before .before .before .before .word16 .ensures in
-    let t = c .before .before .before .before .before .before .before .before .before .if1 .taken in (
-      gives-first (votes r) (answered sha256 r (a .p) (replyBytes r (a .p))) (record { outcome = Accepted; round = r; reply = [] }) (left (c .before .before .before .before .answer .result) (c .before .before .before .before .answer .last .0)) (a .reply .now) (c .before .before .before .before .answer .last .1 .1 .1 .1 .0)
+    let e : c .before .before .before .before .before .before .before .before .before .before .before .before .before .before .before .before .before .before .word16 .result ≡ r .own = c .before .before .before .before .before .before .before .before .before .before .before .before .before .before .before .before .before .before .word16 .ensures in
+    let t = c .before .before .before .before .before .before .before .before .before .before .before .before .before .before .before .before .before .if1 .taken in (
+      gives-first (votes r) (answered sha256 r (a .p) (replyBytes r (a .p))) (record { outcome = Accepted; round = r; reply = [] }) (left (c .before .before .before .before .answer .result) (c .before .before .before .before .answer .last .0)) (a .reply .now) (c .before .before .before .before .answer .last .1 .1 .1 .1 .1 .0)
           (lt-ltb (r .own) 256 (omega arith)) (c .before .before .before .before .answer .ensures .0),
       c .before .before .before .before .answer .ensures .1,
     )
 
-same-length-3 : tie.Need-same-length-3
-same-length-3 c = search needs
+same-length-5 : tie.Need-same-length-5
+same-length-5 c = search needs
 
 returns-2 : tie.Need-returns-2
 unfolding processed
 returns-2 c =
-    let a = c .before .before .before .before .before .before .args in
+    let a = c .before .before .before .before .before .before .before .before .args in
     let r = roundIn (a .s .now) in
     let e : c .before .word16 .result ≡ r .own = c .before .word16 .ensures in
     let t = c .if1 .left in (
@@ -71,6 +77,8 @@ process-new-spec =
     answer-requires
     same-length
     same-length-2
-    returns
     same-length-3
+    same-length-4
+    returns
+    same-length-5
     returns-2)

@@ -37,10 +37,10 @@ part-previous-place-end c = search needs
 
 previous-place-requires : tie.Need-previous-place-requires
 previous-place-requires c κs =
-    let a = c .before .before .before .before .before .before .before .before .before .before .args in
+    let a = c .before .before .before .before .before .before .before .before .before .before .before .before .args in
     let b = a .s .now in
     let r = roundIn b in
-    let p = c .before .before .before .before .before .before .before .before .before .before .pre in
+    let p = c .before .before .before .before .before .before .before .before .before .before .before .before .pre in
     let can = p .1 .1 .1 .0 .0 in
     let n : c .before .before .size .result ≡ r .held = c .before .before .size .ensures .0 in
     let m = fits-out r (can .fit) .most in
@@ -49,8 +49,8 @@ previous-place-requires c κs =
 
 hold-vote-requires : tie.Need-hold-vote-requires
 hold-vote-requires c κs =
-    let a = c .before .before .before .before .before .before .before .before .before .before .before .before .args in
-    let p = c .before .before .before .before .before .before .before .before .before .before .before .before .pre in
+    let a = c .before .before .before .before .before .before .before .before .before .before .before .before .before .before .args in
+    let p = c .before .before .before .before .before .before .before .before .before .before .before .before .before .before .pre in
     let q = p .1 .1 .1 .1 .1 .1 .0 in
     let y = p .1 .1 .1 .1 .1 .1 .1 .most in
     let t = length-take-le (a .count) (a .places .now) q in
@@ -58,22 +58,22 @@ hold-vote-requires c κs =
 
 process-new-requires : tie.Need-process-new-requires
 process-new-requires c κs =
-    let a = c .before .before .before .before .before .before .before .before .before .before .before .before .before .before .before .before .before .args in
+    let a = c .before .before .before .before .before .before .before .before .before .before .before .before .before .before .before .before .before .before .before .before .before .args in
     let b = a .s .now in
     let r = roundIn b in
-    let p = c .before .before .before .before .before .before .before .before .before .before .before .before .before .before .before .before .before .pre in
+    let p = c .before .before .before .before .before .before .before .before .before .before .before .before .before .before .before .before .before .before .before .before .before .pre in
     let can = p .1 .1 .1 .0 .0 in
-    let n : c .before .before .before .before .before .before .before .before .before .size .result ≡ r .held = c .before .before .before .before .before .before .before .before .before .size .ensures .0 in
+    let n : c .before .before .before .before .before .before .before .before .before .before .before .size .result ≡ r .held = c .before .before .before .before .before .before .before .before .before .before .before .size .ensures .0 in
     let l = take (a .count) (a .places .now) in
     let o = previousIn (a .bytes .now) (a .previous) in
     let h = says (a .id .now) (a .signer) o l in
-    let t = c .before .before .before .before .hold-vote .last .0 in
-    let q : c .before .before .before .before .before .before .previous-place .result ≡ previousPlace r o = c .before .before .before .before .before .before .previous-place .ensures ∙ ap (λ (k : ℕ). previousPlaceIn (r .ids) k o) n ∙ sym (previous-lent r o) in
-    let g : roundIn t ≡ hold r h 1 = c .before .before .before .before .hold-vote .ensures .0 o q in
-    let can-hold = vote-storable r (a .id .now) (a .signer) o l (p .1 .1 .1 .1 .0) (λ j. omega (arith, c .before .before .before .before .before .before .before .before .before .before .before .before .before .before .shared-slice-known2 .given j)) (p .1 .1 .1 .1 .1 .1 .1) in
-    let typed = read-typed b (λ j. omega (arith, c .before .before .before .before .before .before .before .before .before .before .before .before .before .before .before .before .slice-known .given j)) (p .0) in (
-      kept-long b t (c .before .before .before .before .hold-vote .ensures .1) (p .0),
-      (new-masks r (roundIn t) h (a .masks .now) g (p .1 .0), (new-worked r typed (fits-out r (can .fit)) (held-room r (a .id .now) (a .reply .now) can) h can-hold (roundIn t) (c .before .before .before .before .before .before .before .before .before .size .result) g n (a .notes) (p .1 .1 .0), new-answers r (a .id .now) (a .reply .now) can typed h can-hold (p .1 .1 .1 .0 .1) (roundIn t) (c .before .before .before .before .before .before .before .before .before .size .result) g n)),
+    let t = c .before .before .before .before .before .before .hold-vote .last .0 in
+    let q : c .before .before .before .before .before .before .before .before .previous-place .result ≡ previousPlace r o = c .before .before .before .before .before .before .before .before .previous-place .ensures ∙ ap (λ (k : ℕ). previousPlaceIn (r .ids) k o) n ∙ sym (previous-lent r o) in
+    let g : roundIn t ≡ hold r h 1 = c .before .before .before .before .before .before .hold-vote .ensures .0 o q in
+    let can-hold = vote-storable r (a .id .now) (a .signer) o l (p .1 .1 .1 .1 .0) (λ j. omega (arith, c .before .before .before .before .before .before .before .before .before .before .before .before .before .before .before .before .shared-slice-known2 .given j)) (p .1 .1 .1 .1 .1 .1 .1) in
+    let typed = read-typed b (λ j. omega (arith, c .before .before .before .before .before .before .before .before .before .before .before .before .before .before .before .before .before .before .before .before .slice-known .given j)) (p .0) in (
+      kept-long b t (c .before .before .before .before .before .before .hold-vote .ensures .1) (p .0),
+      (new-masks r (roundIn t) h (a .masks .now) g (p .1 .0), (new-worked r typed (fits-out r (can .fit)) (held-room r (a .id .now) (a .reply .now) can) h can-hold (roundIn t) (c .before .before .before .before .before .before .before .before .before .before .before .size .result) g n (a .words .now) (a .octets .now) (p .1 .1 .0), new-answers r (a .id .now) (a .reply .now) can typed h can-hold (p .1 .1 .1 .0 .1) (roundIn t) (c .before .before .before .before .before .before .before .before .before .before .before .size .result) g n)),
     )
 
 same-length : tie.Need-same-length
@@ -82,23 +82,29 @@ same-length c = search needs
 same-length-2 : tie.Need-same-length-2
 same-length-2 c = search needs
 
+same-length-3 : tie.Need-same-length-3
+same-length-3 c = search needs
+
+same-length-4 : tie.Need-same-length-4
+same-length-4 c = search needs
+
 returns : tie.Need-returns
 returns c =
-    let a = c .before .before .before .before .before .before .before .before .before .before .before .before .before .before .before .before .before .before .before .before .before .before .args in
+    let a = c .before .before .before .before .before .before .before .before .before .before .before .before .before .before .before .before .before .before .before .before .before .before .before .before .before .before .before .before .before .before .args in
     let b = a .s .now in
     let r = roundIn b in
-    let p = c .before .before .before .before .before .before .before .before .before .before .before .before .before .before .before .before .before .before .before .before .before .before .pre in
+    let p = c .before .before .before .before .before .before .before .before .before .before .before .before .before .before .before .before .before .before .before .before .before .before .before .before .before .before .before .before .before .before .pre in
     let can = p .1 .1 .1 .0 .0 in
-    let n : c .before .before .before .before .before .before .before .before .before .before .before .before .before .before .size .result ≡ r .held = c .before .before .before .before .before .before .before .before .before .before .before .before .before .before .size .ensures .0 in
+    let n : c .before .before .before .before .before .before .before .before .before .before .before .before .before .before .before .before .before .before .before .before .size .result ≡ r .held = c .before .before .before .before .before .before .before .before .before .before .before .before .before .before .before .before .before .before .before .before .size .ensures .0 in
     let l = take (a .count) (a .places .now) in
     let o = previousIn (a .bytes .now) (a .previous) in
     let h = says (a .id .now) (a .signer) o l in
-    let t = c .before .before .before .before .before .before .before .before .before .hold-vote .last .0 in
-    let q : c .before .before .before .before .before .before .before .before .before .before .before .previous-place .result ≡ previousPlace r o = c .before .before .before .before .before .before .before .before .before .before .before .previous-place .ensures ∙ ap (λ (k : ℕ). previousPlaceIn (r .ids) k o) n ∙ sym (previous-lent r o) in
-    let g : roundIn t ≡ hold r h 1 = c .before .before .before .before .before .before .before .before .before .hold-vote .ensures .0 o q in
-    let x = c .before .before .before .before .process-new in (
-      enters-new sha256 r (roundIn t) (a .id .now) h (c .before .before .before .before .before .before .before .before .before .before .before .before .before .before .size .result) (left (x .result) (x .last .0)) (a .reply .now) (x .last .1 .1 .1 .1 .0) g n (p .1 .1 .1 .0 .1) (x .ensures .0),
-      kept-on b t (x .last .0) (c .before .before .before .before .before .before .before .before .before .hold-vote .ensures .1) (x .ensures .1),
+    let t = c .before .before .before .before .before .before .before .before .before .before .before .before .before .before .before .hold-vote .last .0 in
+    let q : c .before .before .before .before .before .before .before .before .before .before .before .before .before .before .before .before .before .previous-place .result ≡ previousPlace r o = c .before .before .before .before .before .before .before .before .before .before .before .before .before .before .before .before .before .previous-place .ensures ∙ ap (λ (k : ℕ). previousPlaceIn (r .ids) k o) n ∙ sym (previous-lent r o) in
+    let g : roundIn t ≡ hold r h 1 = c .before .before .before .before .before .before .before .before .before .before .before .before .before .before .before .hold-vote .ensures .0 o q in
+    let x = c .before .before .before .before .before .before .before .before .process-new in (
+      enters-new sha256 r (roundIn t) (a .id .now) h (c .before .before .before .before .before .before .before .before .before .before .before .before .before .before .before .before .before .before .before .before .size .result) (left (x .result) (x .last .0)) (a .reply .now) (x .last .1 .1 .1 .1 .1 .0) g n (p .1 .1 .1 .0 .1) (x .ensures .0),
+      kept-on b t (x .last .0) (c .before .before .before .before .before .before .before .before .before .before .before .before .before .before .before .hold-vote .ensures .1) (x .ensures .1),
     )
 
 pub add-vote-spec : {M : Type 1} → statement M
@@ -115,4 +121,6 @@ add-vote-spec =
     process-new-requires
     same-length
     same-length-2
+    same-length-3
+    same-length-4
     returns)

@@ -1,5 +1,6 @@
-use mathlib.Core.Path.{_≡_, sym}
+use mathlib.Core.Path.{_≡_, sym, _∙_}
 use Prim.Native.Nat.{suc}
+use Rattle.derive.specs.Lent.{notesIn}
 use Rattle.round.proofs.Fitting.{fits-out}
 use Rattle.roundbytes.specs.Layout.{roundIn}
 use Rattle.judging.proofs.Worked.{work-asked, notes-read, fewer-lent, sizes-in, within}
@@ -75,7 +76,7 @@ part-grown-start-6 : tie.Need-part-grown-start-6
 part-grown-start-6 c = search needs
 
 part-grown-end-6 : tie.Need-part-grown-end-6
-part-grown-end-6 c = search needs
+part-grown-end-6 c = within (c .before .before .before .before .before .before .before .before .before .before .before .before .before .before .before .before .args .s .now) 7094 (c .before .before .before .before .before .before .before .before .before .before .before .before .before .before .before .before .pre .0) (omega arith)
 
 sub-grown-7 : tie.Need-sub-grown-7
 sub-grown-7 c = search needs
@@ -84,29 +85,39 @@ part-grown-start-7 : tie.Need-part-grown-start-7
 part-grown-start-7 c = search needs
 
 part-grown-end-7 : tie.Need-part-grown-end-7
-part-grown-end-7 c = within (c .before .before .before .before .before .before .before .before .before .before .before .before .before .args .s .now) 23478 (c .before .before .before .before .before .before .before .before .before .before .before .before .before .pre .0) (omega arith)
+part-grown-end-7 c = within (c .before .before .before .before .before .before .before .before .before .before .before .before .before .before .before .before .before .args .s .now) 23478 (c .before .before .before .before .before .before .before .before .before .before .before .before .before .before .before .before .before .pre .0) (omega arith)
 
 grown-requires : tie.Need-grown-requires
 grown-requires c κs =
-    let a = c .before .before .before .before .before .before .before .before .before .before .before .before .before .before .args in
-    let p = c .before .before .before .before .before .before .before .before .before .before .before .before .before .before .pre in
+    let a = c .before .before .before .before .before .before .before .before .before .before .before .before .before .before .before .before .before .before .args in
+    let p = c .before .before .before .before .before .before .before .before .before .before .before .before .before .before .before .before .before .before .pre in
     let s = a .s .now in
     let r = roundIn s in
-    let l = c .before .before .before .before .before .before .before .before .before .size in
-    let b = c .before .before .before .before .before .before .before .before .ballots-in in
+    let l = c .before .before .before .before .before .before .before .before .before .before .before .size in
+    let b = c .before .before .before .before .before .before .before .before .before .before .ballots-in in
     let e = l .ensures .0 in
     let g : suc (a .n) ≡ r .held = sym (p .1 .1 .1 .0) in
     let w = work-asked r (l .result) (suc (a .n)) (a .masks .now) (b .result) e g (p .1 .0) (b .ensures) (fits-out r (p .1 .1 .0)) (sizes-in s (p .0)) in
-    (w .0, (w .1 .0, (w .1 .1 .0, (p .1 .1 .1 .1 .0, (w .1 .1 .1 .0, (w .1 .1 .1 .1, fewer-lent r (l .result) (suc (a .n)) (a .masks .now) (b .result) e g (p .1 .0) (b .ensures) (a .n) (a .notes) (p .1 .1 .1 .1 .1)))))))
+    let x = fewer-lent r (l .result) (suc (a .n)) (a .masks .now) (b .result) e g (p .1 .0) (b .ensures) (a .n) (notesIn (a .words .now) (a .octets .now)) (p .1 .1 .1 .1 .1 .1) in
+    (w .0, (w .1 .0, (w .1 .1 .0, (p .1 .1 .1 .1 .0, (w .1 .1 .1 .0, (w .1 .1 .1 .1, (p .1 .1 .1 .1 .1 .0, x)))))))
+
+same-length : tie.Need-same-length
+same-length c = search needs
+
+same-length-2 : tie.Need-same-length-2
+same-length-2 c = search needs
 
 returns : tie.Need-returns
 returns c =
-    let a = c .before .before .before .before .before .before .before .before .before .before .before .before .before .before .before .args in
-    let p = c .before .before .before .before .before .before .before .before .before .before .before .before .before .before .before .pre in
+    let a = c .before .before .before .before .before .before .before .before .before .before .before .before .before .before .before .before .before .before .before .before .before .before .before .args in
+    let p = c .before .before .before .before .before .before .before .before .before .before .before .before .before .before .before .before .before .before .before .before .before .before .before .pre in
     let r = roundIn (a .s .now) in
-    let l = c .before .before .before .before .before .before .before .before .before .before .size in
-    let b = c .before .before .before .before .before .before .before .before .before .ballots-in in
-    notes-read r (l .result) (suc (a .n)) (a .masks .now) (b .result) (l .ensures .0) (sym (p .1 .1 .1 .0)) (p .1 .0) (b .ensures) (c .grown .result) (c .grown .ensures)
+    let l = c .before .before .before .before .before .before .before .before .before .before .before .before .before .before .before .before .size in
+    let b = c .before .before .before .before .before .before .before .before .before .before .before .before .before .before .before .ballots-in in
+    let w = c .before .before .before .before .grown in (
+      (w .kept .0 ∙ p .1 .1 .1 .1 .1 .0 .0, w .kept .1 .0 ∙ p .1 .1 .1 .1 .1 .0 .1),
+      notes-read r (l .result) (suc (a .n)) (a .masks .now) (b .result) (l .ensures .0) (sym (p .1 .1 .1 .0)) (p .1 .0) (b .ensures) (notesIn (w .last .0) (w .last .1 .0)) (w .ensures),
+    )
 
 pub notes-more-spec : {M : Type 1} → statement M
 notes-more-spec =
@@ -139,4 +150,6 @@ notes-more-spec =
     part-grown-start-7
     part-grown-end-7
     grown-requires
+    same-length
+    same-length-2
     returns)

@@ -1,3 +1,5 @@
+use mathlib.Core.Path.{_∙_}
+use Rattle.derive.specs.Lent.{notesIn}
 use Rattle.round.proofs.Fitting.{fits-out}
 use Rattle.roundbytes.specs.Layout.{roundIn}
 use Rattle.judging.proofs.Worked.{work-asked, notes-read, sizes-in, within}
@@ -88,30 +90,39 @@ part-work-out-start-7 : tie.Need-part-work-out-start-7
 part-work-out-start-7 c = search needs
 
 part-work-out-end-7 : tie.Need-part-work-out-end-7
-part-work-out-end-7 c = within (c .before .before .before .before .before .before .before .before .before .before .before .before .before .before .before .args .s .now) 23478 (c .before .before .before .before .before .before .before .before .before .before .before .before .before .before .before .pre .0) (omega arith)
+part-work-out-end-7 c = within (c .before .before .before .before .before .before .before .before .before .before .before .before .before .before .before .before .before .before .before .args .s .now) 23478 (c .before .before .before .before .before .before .before .before .before .before .before .before .before .before .before .before .before .before .before .pre .0) (omega arith)
 
 work-out-requires : tie.Need-work-out-requires
 work-out-requires c κs =
-    let a = c .before .before .before .before .before .before .before .before .before .before .before .before .before .before .before .before .args in
-    let p = c .before .before .before .before .before .before .before .before .before .before .before .before .before .before .before .before .pre in
+    let a = c .before .before .before .before .before .before .before .before .before .before .before .before .before .before .before .before .before .before .before .before .args in
+    let p = c .before .before .before .before .before .before .before .before .before .before .before .before .before .before .before .before .before .before .before .before .pre in
     let s = a .s .now in
     let r = roundIn s in
-    let l = c .before .before .before .before .before .before .before .before .before .before .before .size in
-    let n = c .before .before .before .before .before .before .before .before .before .size2 in
-    let b = c .before .before .before .before .before .before .before .before .ballots-in in
-    work-asked r (l .result) (n .result) (a .masks .now) (b .result) (l .ensures .0) (n .ensures .0) (p .1 .0) (b .ensures) (fits-out r (p .1 .1)) (sizes-in s (p .0))
+    let l = c .before .before .before .before .before .before .before .before .before .before .before .before .before .size in
+    let n = c .before .before .before .before .before .before .before .before .before .before .before .size2 in
+    let b = c .before .before .before .before .before .before .before .before .before .before .ballots-in in
+    let w = work-asked r (l .result) (n .result) (a .masks .now) (b .result) (l .ensures .0) (n .ensures .0) (p .1 .0) (b .ensures) (fits-out r (p .1 .1 .0)) (sizes-in s (p .0)) in
+    (w .0, (w .1 .0, (w .1 .1 .0, (w .1 .1 .1 .0, (w .1 .1 .1 .1, p .1 .1 .1)))))
+
+same-length : tie.Need-same-length
+same-length c = search needs
+
+same-length-2 : tie.Need-same-length-2
+same-length-2 c = search needs
 
 returns : tie.Need-returns
 returns c =
-    let a = c .before .before .before .before .before .before .before .before .before .before .before .before .before .before .before .before .before .args in
-    let p = c .before .before .before .before .before .before .before .before .before .before .before .before .before .before .before .before .before .pre in
+    let a = c .before .before .before .before .before .before .before .before .before .before .before .before .before .before .before .before .before .before .before .before .before .before .before .before .before .args in
+    let p = c .before .before .before .before .before .before .before .before .before .before .before .before .before .before .before .before .before .before .before .before .before .before .before .before .before .pre in
     let s = a .s .now in
     let r = roundIn s in
-    let l = c .before .before .before .before .before .before .before .before .before .before .before .before .size in
-    let n = c .before .before .before .before .before .before .before .before .before .before .size2 in
-    let b = c .before .before .before .before .before .before .before .before .before .ballots-in in
-    let w = c .work-out in
-    notes-read r (l .result) (n .result) (a .masks .now) (b .result) (l .ensures .0) (n .ensures .0) (p .1 .0) (b .ensures) (w .result) (w .ensures .0, w .ensures .1)
+    let l = c .before .before .before .before .before .before .before .before .before .before .before .before .before .before .before .before .before .before .size in
+    let n = c .before .before .before .before .before .before .before .before .before .before .before .before .before .before .before .before .size2 in
+    let b = c .before .before .before .before .before .before .before .before .before .before .before .before .before .before .before .ballots-in in
+    let w = c .before .before .before .before .work-out in (
+      (w .kept .0 ∙ p .1 .1 .1 .0, w .kept .1 .0 ∙ p .1 .1 .1 .1),
+      notes-read r (l .result) (n .result) (a .masks .now) (b .result) (l .ensures .0) (n .ensures .0) (p .1 .0) (b .ensures) (notesIn (w .last .0) (w .last .1 .0)) (w .ensures),
+    )
 
 pub notes-of-spec : {M : Type 1} → statement M
 notes-of-spec =
@@ -146,4 +157,6 @@ notes-of-spec =
     part-work-out-start-7
     part-work-out-end-7
     work-out-requires
+    same-length
+    same-length-2
     returns)

@@ -38,8 +38,8 @@ part-previous-place-end c = search needs
 
 previous-place-requires : tie.Need-previous-place-requires
 previous-place-requires c κs =
-    let a = c .before .before .before .before .before .before .before .before .args in
-    let p = c .before .before .before .before .before .before .before .before .pre in
+    let a = c .before .before .before .before .before .before .before .before .before .before .args in
+    let p = c .before .before .before .before .before .before .before .before .before .before .pre in
     let s = a .s .now in
     let r = roundIn s in
     let n = c .before .size in
@@ -56,8 +56,8 @@ part-judge-end c = search needs
 
 judge-requires : tie.Need-judge-requires
 judge-requires c κs =
-    let a = c .before .before .before .before .before .before .before .before .before .before .args in
-    let p = c .before .before .before .before .before .before .before .before .before .before .pre in
+    let a = c .before .before .before .before .before .before .before .before .before .before .before .before .args in
+    let p = c .before .before .before .before .before .before .before .before .before .before .before .before .pre in
     let s = a .s .now in
     let r = roundIn s in
     let o = previousIn (a .bytes .now) (a .previous) in
@@ -69,8 +69,8 @@ judge-requires c κs =
 
 lacks-room-requires : tie.Need-lacks-room-requires
 lacks-room-requires c κs =
-    let a = c .before .before .before .before .before .before .before .before .before .before .before .args in
-    let p = c .before .before .before .before .before .before .before .before .before .before .before .pre in
+    let a = c .before .before .before .before .before .before .before .before .before .before .before .before .before .args in
+    let p = c .before .before .before .before .before .before .before .before .before .before .before .before .before .pre in
     let s = a .s .now in
     let r = roundIn s in
     (p .0, (fits-out r (p .1 .1 .0) .most, p .1 .1 .1 .1 .0))
@@ -80,8 +80,8 @@ form-row-requires c κs = search needs
 
 returns : tie.Need-returns
 returns c =
-    let a = c .before .before .before .before .before .before .before .before .before .before .before .before .before .args in
-    let p = c .before .before .before .before .before .before .before .before .before .before .before .before .before .pre in
+    let a = c .before .before .before .before .before .before .before .before .before .before .before .before .before .before .before .args in
+    let p = c .before .before .before .before .before .before .before .before .before .before .before .before .before .before .before .pre in
     let s = a .s .now in
     let r = roundIn s in
     let o = previousIn (a .bytes .now) (a .previous) in

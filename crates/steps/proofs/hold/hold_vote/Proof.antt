@@ -6,12 +6,13 @@ use native.Mathlib.Omega.{arith}
 use lib.ListN.{length, getD, take}
 use lib.Seq.{length-take-le}
 use Rattle.base.specs.Bytes.{putAt}
+use Rattle.base.proofs.Cuts.{into}
 use Rattle.protocol.specs.Ids.{Id}
 use Rattle.protocol.specs.Table.{says}
 use Rattle.round.specs.declared.Round.{Round}
 use Rattle.round.specs.Delivery.{previousPlace, hold}
 use Rattle.roundbytes.specs.Layout.{roundLen, roundIn}
-use Rattle.roundbytes.proofs.InPlace.{Written, parts, into, unwritten, put-next, round-then, of-parts}
+use Rattle.roundbytes.proofs.InPlace.{Written, parts, unwritten, put-next, round-then, of-parts}
 use Rattle.steps.specs.Row.{withRow}
 use borrow.Author.Needs.{needs}
 use Rattle.steps.proofs.hold.hold_vote.Statement.{statement}
