@@ -121,33 +121,39 @@ fn race(name: &str, cases: &[Case], calls: impl Fn(&Case) -> [Call<'_>; CONTESTA
 const AHEAD: f64 = 20.0;
 const AHEAD_FROM: usize = 64;
 
-/// Whoever takes a message tests row 17 and hashes it; a known one is then refused.
-/// Where so many such deliveries take longer than the transcription's one, nobody
-/// can be so far ahead of it.
+/// Whoever takes a message tests row 17 and hashes it; a known one is then refused,
+/// and nothing is written. Where so many refusals take longer than the transcription's
+/// one delivery, nobody who tests and hashes as slowly can be so far ahead of it.
 fn floor(name: &str, cases: &[Case]) {
     for case in cases.iter().filter(|case| case.size >= AHEAD_FROM) {
         let Case { bytes, message, literal, size, .. } = case;
-        let (mut digest, mut reply) = ([0; 32], [0; LONGEST]);
+        let (mut digest, mut reply, mut twin_reply) = ([0; 32], [0; LONGEST], [0; LONGEST]);
         let mut known = bytes.clone();
         assert_eq!(library::deliver(&mut known[..], message, &mut reply), 0);
-        let mut round = known.clone();
+        let mut twin_known = known.clone();
         let turns = contest::take_turns(vec![
             Box::new(|| {
                 black_box(library::sha256(black_box(message), &mut digest));
             }),
             Box::new(|| {
-                round.copy_from_slice(&known[..]);
-                black_box(library::deliver(&mut round[..], black_box(message), &mut reply));
+                black_box(library::deliver(&mut known[..], black_box(message), &mut reply));
+            }),
+            Box::new(|| {
+                let answer =
+                    twin::deliver(&mut twin_known[..], black_box(message), &mut twin_reply);
+                black_box(answer);
             }),
             Box::new(|| {
                 black_box(literal.clone().deliver(black_box(message), LONGEST)).ok();
             }),
         ]);
+        let many = |one| shown(AHEAD * turns.ratio(one, 3));
         println!(
-            "{name}, {size} held: {AHEAD} digests / transcription = {}, \
-             {AHEAD} deliveries refused as known / transcription = {}",
-            shown(AHEAD * turns.ratio(0, 2)),
-            shown(AHEAD * turns.ratio(1, 2))
+            "{name}, {size} held: {AHEAD} digests / transcription = {}, {AHEAD} deliveries \
+             refused as known / transcription = {}, by the twin = {}",
+            many(0),
+            many(1),
+            many(2)
         );
     }
 }
