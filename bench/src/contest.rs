@@ -1,20 +1,32 @@
 //! Times a call of the library beside its twins, all in one run.
 
+use std::iter::once;
 use std::time::Duration;
 
-/// How often each pair is timed; the median counts.
-const REPETITIONS: usize = 101;
-/// Each timing runs the call often enough to take about this long.
-const SAMPLE: Duration = Duration::from_millis(2);
+/// How much a run spends on a figure.
+#[derive(Clone, Copy)]
+pub struct Pace {
+    /// How many turns the contestants take; the median counts.
+    turns: usize,
+    /// In a turn each call runs often enough to take about this long.
+    sample: Duration,
+    /// Where the turns would take longer than this, fewer are taken, but not too few.
+    patience: Duration,
+}
 
-/// Where that would take longer than this, fewer turns are taken, but not fewer than three.
-const PATIENCE: Duration = Duration::from_secs(12);
 const LEAST_TURNS: usize = 3;
+
+impl Pace {
+    pub const FULL: Pace =
+        Pace { turns: 101, sample: Duration::from_millis(2), patience: Duration::from_secs(12) };
+    pub const QUICK: Pace =
+        Pace { turns: 21, sample: Duration::from_millis(2), patience: Duration::from_secs(2) };
+}
 
 /// One contestant's call.
 pub type Call<'a> = Box<dyn FnMut() + 'a>;
 
-/// One contestant: its name and the call.
+/// One twin: its name and the call.
 pub type Entry<'a> = (&'a str, Call<'a>);
 
 /// The C library's `struct timespec` on 64-bit Linux.
@@ -46,14 +58,12 @@ fn time(call: &mut dyn FnMut(), calls: u32) -> Duration {
 }
 
 /// How many calls fill a sample.
-fn calls_for(call: &mut dyn FnMut()) -> u32 {
+fn calls_for(call: &mut dyn FnMut(), sample: Duration) -> u32 {
     let mut calls = 1;
-    loop {
-        if time(call, calls) >= SAMPLE {
-            return calls;
-        }
+    while time(call, calls) < sample {
         calls *= 2;
     }
+    calls
 }
 
 fn each(taken: Duration, calls: u32) -> f64 {
@@ -65,45 +75,63 @@ fn median(mut ratios: Vec<f64>) -> f64 {
     ratios[ratios.len() / 2]
 }
 
-/// Prints the library's time divided by that of each twin. The contestants take
-/// turns and each turn gives one ratio, so that a slower spell of the machine
-/// meets both sides; the median ratio counts.
-pub fn run(name: &str, mut library: impl FnMut(), twins: Vec<Entry>) {
-    let library_calls = calls_for(&mut library);
-    for (twin, mut call) in twins {
-        let twin_calls = calls_for(&mut call);
-        let ratios = (0..REPETITIONS)
-            .map(|_| {
-                let library_time = time(&mut library, library_calls);
-                let twin_time = time(&mut call, twin_calls);
-                each(library_time, library_calls) / each(twin_time, twin_calls)
-            })
-            .collect();
-        println!("{name}: library / {twin} = {:.2}", median(ratios));
-    }
-}
-
 /// The times of several calls in each of several turns.
 pub struct Turns {
     times: Vec<Vec<f64>>,
 }
 
 impl Turns {
-    /// The median of one call's time divided by another's, turn by turn.
+    /// Times all the calls, one after the other, in turns.
+    pub fn take(pace: Pace, mut calls: Vec<Call>) -> Self {
+        let counts: Vec<u32> = calls.iter_mut().map(|call| calls_for(call, pace.sample)).collect();
+        let start = now();
+        let mut times = Vec::new();
+        while times.len() < LEAST_TURNS || times.len() < pace.turns && now() - start < pace.patience
+        {
+            let turn =
+                calls.iter_mut().zip(&counts).map(|(call, count)| each(time(call, *count), *count));
+            times.push(turn.collect());
+        }
+        Turns { times }
+    }
+
+    /// The median of one call's time divided by another's. Each turn gives one ratio,
+    /// so that a slower spell of the machine meets both sides.
     pub fn ratio(&self, one: usize, other: usize) -> f64 {
         median(self.times.iter().map(|turn| turn[one] / turn[other]).collect())
     }
 }
 
-/// Times all the calls, one after the other, in turns.
-pub fn take_turns(mut calls: Vec<Call>) -> Turns {
-    let counts: Vec<u32> = calls.iter_mut().map(|call| calls_for(call)).collect();
-    let start = now();
-    let mut times = Vec::new();
-    while times.len() < LEAST_TURNS || times.len() < REPETITIONS && now() - start < PATIENCE {
-        let turn =
-            calls.iter_mut().zip(&counts).map(|(call, count)| each(time(call, *count), *count));
-        times.push(turn.collect());
+/// A call that is timed under a name; nothing is built for it before it is run.
+pub struct Case {
+    pub name: String,
+    hold: Box<dyn FnOnce(&Contest)>,
+}
+
+impl Case {
+    pub fn new(name: impl Into<String>, hold: impl FnOnce(&Contest) + 'static) -> Self {
+        Case { name: name.into(), hold: Box::new(hold) }
     }
-    Turns { times }
+
+    pub fn run(self, pace: Pace) {
+        (self.hold)(&Contest { name: self.name, pace });
+    }
+}
+
+/// Where the contestants of a case meet.
+pub struct Contest {
+    name: String,
+    pace: Pace,
+}
+
+impl Contest {
+    /// Prints the library's time divided by that of each twin.
+    pub fn run<'a>(&self, library: impl FnMut() + 'a, twins: Vec<Entry<'a>>) {
+        let (names, calls): (Vec<&str>, Vec<Call>) = twins.into_iter().unzip();
+        let library: Call = Box::new(library);
+        let turns = Turns::take(self.pace, once(library).chain(calls).collect());
+        for (i, twin) in names.iter().enumerate() {
+            println!("{}: library / {twin} = {:.2}", self.name, turns.ratio(0, i + 1));
+        }
+    }
 }

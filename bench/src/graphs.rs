@@ -1,6 +1,6 @@
 //! Checking the largest graph file, against a Rust twin that allocates nothing.
 
-use crate::contest;
+use crate::contest::{Case, Contest};
 use reference::{graph, library, sites};
 use std::hint::black_box;
 
@@ -113,18 +113,22 @@ fn check_graph(file: &[u8]) -> u32 {
     check(file).err().unwrap_or(0)
 }
 
-pub fn run() {
+pub fn case() -> Case {
     let file = graph::write(&sites::largest());
-    assert_eq!((library::check_graph(&file), check_graph(&file)), (0, 0), "the contestants differ");
-    contest::run(
-        &format!("checking the largest graph, {} bytes", file.len()),
+    let name = format!("checking the largest graph, {} bytes", file.len());
+    Case::new(name, move |contest| checking(contest, &file))
+}
+
+fn checking(contest: &Contest, file: &[u8]) {
+    assert_eq!((library::check_graph(file), check_graph(file)), (0, 0), "the contestants differ");
+    contest.run(
         || {
-            black_box(library::check_graph(black_box(&file)));
+            black_box(library::check_graph(black_box(file)));
         },
         vec![(
             "Rust twin",
             Box::new(|| {
-                black_box(check_graph(black_box(&file)));
+                black_box(check_graph(black_box(file)));
             }),
         )],
     );

@@ -1,7 +1,7 @@
 //! Reading the longest message and writing a proposal, against Rust twins that
 //! allocate nothing.
 
-use crate::contest;
+use crate::contest::{Case, Contest};
 use reference::library;
 use reference::message::{self, Body, Message, LONGEST};
 use reference::sha256::sha256;
@@ -84,6 +84,8 @@ fn reference(bytes: &[u8], n: usize, id: &mut [u8]) -> u32 {
     }
 }
 
+/// Seventeen bytes take less time than a call, so this is called as the library is.
+#[inline(never)]
 fn write_proposal(
     house: u16,
     bay: u16,
@@ -130,12 +132,11 @@ fn alike() -> Vec<[u8; 32]> {
         .collect()
 }
 
-fn reading(ids: &str, bytes: &[u8]) {
+fn reading(contest: &Contest, bytes: &[u8]) {
     let (mut fields, mut twin) = ([0; FIELDS_LEN], [0; FIELDS_LEN]);
     let answers = (library::read_message(bytes, &mut fields), read_message(bytes, &mut twin));
     assert_eq!((answers, fields), ((0, 0), twin), "the contestants differ");
-    contest::run(
-        &format!("reading {} bytes, {ids}", bytes.len()),
+    contest.run(
         || {
             black_box(library::read_message(black_box(bytes), &mut fields));
         },
@@ -148,12 +149,11 @@ fn reading(ids: &str, bytes: &[u8]) {
     );
 }
 
-fn last_reference(bytes: &[u8]) {
+fn last_reference(contest: &Contest, bytes: &[u8]) {
     let (mut id, mut twin) = ([0; 32], [0; 32]);
     let answers = (library::reference(bytes, 127, &mut id), reference(bytes, 127, &mut twin));
     assert_eq!((answers, id), ((0, 0), twin), "the contestants differ");
-    contest::run(
-        &format!("last reference of {} bytes", bytes.len()),
+    contest.run(
         || {
             black_box(library::reference(black_box(bytes), 127, &mut id));
         },
@@ -166,15 +166,14 @@ fn last_reference(bytes: &[u8]) {
     );
 }
 
-fn writing() {
+fn writing(contest: &Contest) {
     let (mut message, mut twin) = ([0; PROPOSAL_LEN], [0; PROPOSAL_LEN]);
     let answers = (
         library::write_proposal(1, 12, 0, 5, 70, &mut message),
         write_proposal(1, 12, 0, 5, 70, &mut twin),
     );
     assert_eq!((answers, message), ((0, 0), twin), "the contestants differ");
-    contest::run(
-        "writing a proposal",
+    contest.run(
         || {
             let (house, bay, proposer, round, value) = black_box((1, 12, 0, 5, 70));
             black_box(library::write_proposal(house, bay, proposer, round, value, &mut message));
@@ -189,10 +188,20 @@ fn writing() {
     );
 }
 
-pub fn run() {
-    let bytes = longest(digests());
-    reading("ids are digests", &bytes);
-    reading("ids differ in the last byte only", &longest(alike()));
-    last_reference(&bytes);
-    writing();
+pub fn cases() -> Vec<Case> {
+    vec![
+        Case::new(format!("reading {LONGEST} bytes, ids are digests"), |contest| {
+            reading(contest, &longest(digests()));
+        }),
+        Case::new(
+            format!("reading {LONGEST} bytes, ids differ in the last byte only"),
+            |contest| {
+                reading(contest, &longest(alike()));
+            },
+        ),
+        Case::new(format!("last reference of {LONGEST} bytes"), |contest| {
+            last_reference(contest, &longest(digests()));
+        }),
+        Case::new("writing a proposal", writing),
+    ]
 }

@@ -1,31 +1,32 @@
-//! Before anything is timed: the contestants answer alike on random traffic, in
+//! Before rounds are timed: the contestants answer alike on random traffic, in
 //! listening and voting rounds, with forks, damage, repetition and disorder.
 
+use super::cases::Case;
 use super::notes::check_peaks;
 use super::site::{opened, Site, BAY, HOUSE};
 use super::table::Bytes;
-use super::{literal, twin};
-use reference::graph::LearnerGraph;
+use super::twin::{self, REPLIED, REPORT_LEN};
+use reference::graph::{self, LearnerGraph};
 use reference::message::LONGEST;
 use reference::random::Random;
 use reference::refusal::Refusal;
+use reference::round::{self, Delivery, Round};
 use reference::{damage, library, sites};
-use std::cell::RefCell;
 
 const SITES: usize = 60;
 const BALLOTS: usize = 9;
 
 /// A round of each contestant.
-pub struct Contestants {
-    pub library: Box<Bytes>,
-    pub twin: Box<Bytes>,
-    pub literal: literal::Round,
+struct Contestants {
+    library: Box<Bytes>,
+    twin: Box<Bytes>,
+    model: Round,
 }
 
 fn number(outcome: &Result<Option<Vec<u8>>, Refusal>) -> u32 {
     match outcome {
         Ok(None) => 0,
-        Ok(Some(reply)) => 256 + reply.len() as u32,
+        Ok(Some(reply)) => REPLIED + reply.len() as u32,
         Err(refusal) => refusal.number(),
     }
 }
@@ -33,15 +34,19 @@ fn number(outcome: &Result<Option<Vec<u8>>, Refusal>) -> u32 {
 impl Contestants {
     fn open(graph: &LearnerGraph, own: Option<u8>) -> Self {
         let library = opened(graph, own);
-        let (held, last, lrns) = (Vec::new(), None, RefCell::default());
-        let graph = graph.clone();
-        let literal = literal::Round { graph, house: HOUSE, bay: BAY, own, held, last, lrns };
-        Contestants { twin: library.clone(), library, literal }
+        let model = round::open(&graph::write(graph), HOUSE, BAY, own.map(Into::into));
+        let model = model.expect("an accepted graph");
+        Contestants { twin: library.clone(), library, model }
+    }
+
+    fn at(case: &Case) -> Self {
+        let (library, twin) = (case.bytes.clone(), case.bytes.clone());
+        Contestants { library, twin, model: case.modelled() }
     }
 
     /// Delivers to all of them and gives the reply.
-    pub fn deliver(&mut self, message: &[u8]) -> Option<Vec<u8>> {
-        let expected = self.literal.deliver(message, LONGEST);
+    fn deliver(&mut self, message: &[u8]) -> Option<Vec<u8>> {
+        let expected = self.model.deliver(message, LONGEST).map(Delivery::reply);
         let mut replies = [[0x5a; LONGEST]; 2];
         let [first, second] = &mut replies;
         let answers = [
@@ -58,14 +63,14 @@ impl Contestants {
         reply
     }
 
-    pub fn report(&self, learner: u8) {
-        let mut reports = [[0x5a; 17]; 2];
+    fn report(&self, learner: u8) {
+        let mut reports = [[0x5a; REPORT_LEN]; 2];
         let [first, second] = &mut reports;
         let answers = [
             library::report(&self.library[..], learner, first),
             twin::report(&self.twin[..], learner, second),
         ];
-        match self.literal.report(learner) {
+        match self.model.report(learner) {
             Ok(report) => {
                 assert_eq!(answers, [0; 2], "the contestants differ");
                 let expected = report.bytes();
@@ -110,6 +115,13 @@ fn follow(random: &mut Random, graph: &LearnerGraph, messages: &[Vec<u8>], own: 
             contestants.report(random.below(graph.learners() + 1) as u8);
         }
     }
+}
+
+/// The contestants answer alike where they are timed.
+pub fn assert_alike(case: &Case) {
+    let mut contestants = Contestants::at(case);
+    contestants.report(0);
+    contestants.deliver(&case.message);
 }
 
 pub fn check() {

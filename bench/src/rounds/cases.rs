@@ -1,95 +1,76 @@
 //! The rounds that are timed, of several sizes, each with the message that comes
 //! next; found in the traffic of sites.
 
-use super::literal;
-use super::site::{Seat, Sent, Site, BAY, HOUSE};
-use super::table::{Bytes, Table, NOWHERE};
+use super::site::{Seat, Sent, Site};
+use super::table::Bytes;
 use reference::graph::LearnerGraph;
-use reference::meaning::{Content, Held};
+use reference::handed_in;
 use reference::message::PROPOSAL;
 use reference::random::Random;
-use reference::round::CAPACITY;
-use std::cell::RefCell;
+use reference::round::{Round, CAPACITY};
 
 /// How many messages a round holds; the last is the most that still takes one more.
 const LISTENING: [usize; 4] = [8, 32, 64, 127];
 /// An acceptor keeps a place for its reply.
 const VOTING: [usize; 4] = [8, 32, 64, 126];
 
-/// How many sites are searched for a case of each size.
+/// How many sites are searched for a case.
 const SEEDS: u64 = 20;
 
+/// What is timed.
 #[derive(Clone, Copy, PartialEq)]
-pub enum Kind {
+pub enum Task {
+    /// A 1b delivered to a round that only listens.
     First,
+    /// A 2a delivered to a round that only listens.
     Second,
+    /// A delivery that is answered.
+    Answer,
+    /// A report of a round that takes a 2a next.
+    Report,
+}
+
+impl Task {
+    pub const ALL: [Task; 4] = [Task::First, Task::Second, Task::Answer, Task::Report];
+
+    pub fn name(self) -> &'static str {
+        match self {
+            Task::First => "delivering a 1b",
+            Task::Second => "delivering a 2a",
+            Task::Answer => "delivering and answering",
+            Task::Report => "report",
+        }
+    }
+
+    /// How many messages the rounds hold. Beneath a 2a are a proposal and the 1bs of
+    /// a quorum, which lacks one acceptor.
+    pub fn sizes(self, graph: &LearnerGraph) -> Vec<usize> {
+        let (sizes, least) = match self {
+            Task::First => (LISTENING, 0),
+            Task::Second | Task::Report => (LISTENING, graph.acceptors),
+            Task::Answer => (VOTING, graph.acceptors),
+        };
+        sizes.into_iter().filter(|size| *size >= least).collect()
+    }
 }
 
 /// A round and the message that comes next.
 pub struct Case {
-    pub size: usize,
     pub bytes: Box<Bytes>,
     pub message: Vec<u8>,
-    pub literal: literal::Round,
-    /// For the model: what is held, and afterwards.
-    pub before: Vec<Held>,
-    pub after: Vec<Held>,
 }
 
-/// The messages of a round, as the model takes them.
-fn held_in(bytes: &Bytes) -> Vec<Held> {
-    let table = Table::of(bytes);
-    let previous = |p: usize| match table.previous()[p] {
-        NOWHERE => None,
-        place => Some(table.ids()[usize::from(place)]),
-    };
-    let references = |p: usize| table.references(p).iter().map(|k| usize::from(*k)).collect();
-    let content = |p: usize| match table.is_proposal(p) {
-        true => Content::Proposal { ballot: table.ballot(p) },
-        false => Content::Acceptor { previous: previous(p), references: references(p) },
-    };
-    let held = |p| Held { id: table.ids()[p], signer: table.signers()[p], content: content(p) };
-    (0..table.held()).map(held).collect()
-}
-
-/// The round, as the transcription takes it.
-fn literal_round(graph: &LearnerGraph, bytes: &Bytes) -> literal::Round {
-    let table = Table::of(bytes);
-    let held = held_in(bytes).into_iter().enumerate().map(|(p, held)| {
-        let (ballot, previous, references) = match held.content {
-            Content::Proposal { ballot } => (Some(ballot), None, Vec::new()),
-            Content::Acceptor { previous, references } => (None, previous, references),
-        };
-        let (known, recent) = (table.known()[p] != 0, table.recent()[p] != 0);
-        let (id, signer) = (held.id, held.signer);
-        literal::Held { id, signer, ballot, previous, references, known, recent }
-    });
-    literal::Round {
-        graph: graph.clone(),
-        house: HOUSE,
-        bay: BAY,
-        own: table.votes().then_some(table.own() as u8),
-        held: held.collect(),
-        last: (table.last() != NOWHERE).then_some(usize::from(table.last())),
-        lrns: RefCell::default(),
+impl Case {
+    /// The model's round; what all held messages mean is worked out from the bytes.
+    pub fn modelled(&self) -> Round {
+        handed_in::take(&self.bytes[..]).expect("bytes of a round")
     }
 }
 
-fn case_for(graph: &LearnerGraph, seat: &Seat, message: &[u8], next: &Seat) -> Case {
-    Case {
-        size: seat.held(),
-        bytes: seat.round.clone(),
-        message: message.to_vec(),
-        literal: literal_round(graph, &seat.round),
-        before: held_in(&seat.round),
-        after: held_in(&next.round),
-    }
-}
-
-/// Whether a message is of the kind.
-fn is_kind(log: &[Sent], place: usize, kind: Kind) -> bool {
+/// Whether a message is one that the task delivers to a listening round.
+fn is_wanted(log: &[Sent], place: usize, task: Task) -> bool {
     let offered = log[place].references.iter().any(|k| log[*k].is_proposal());
-    !log[place].is_proposal() && offered == (kind == Kind::First)
+    !log[place].is_proposal() && offered == (task == Task::First)
 }
 
 /// So many of the messages before one, each behind those that it refers to; among
@@ -110,18 +91,19 @@ fn some_before(log: &[Sent], last: usize, count: usize) -> Vec<usize> {
     (0..last).filter(|place| wanted[*place]).collect()
 }
 
-/// A round that only listens, holds `size` messages and takes one of the kind.
-fn listening_case(graph: &LearnerGraph, site: &Site, size: usize, kind: Kind) -> Option<Case> {
+/// A round that only listens, holds `size` messages and takes one that is wanted.
+fn listening_case(graph: &LearnerGraph, site: &Site, size: usize, task: Task) -> Option<Case> {
     let log = &site.log;
-    (size..log.len()).filter(|last| is_kind(log, *last, kind)).find_map(|last| {
+    (size..log.len()).filter(|last| is_wanted(log, *last, task)).find_map(|last| {
         let mut seat = Seat::open(graph, None);
         for place in some_before(log, last, size) {
             seat.deliver(&log[place].bytes);
         }
-        let mut next = seat.clone();
-        next.deliver(&log[last].bytes);
-        let fits = (seat.held(), next.held()) == (size, size + 1);
-        fits.then(|| case_for(graph, &seat, &log[last].bytes, &next))
+        let (bytes, message) = (seat.round.clone(), log[last].bytes.clone());
+        let before = seat.held();
+        seat.deliver(&message);
+        let fits = (before, seat.held()) == (size, size + 1);
+        fits.then_some(Case { bytes, message })
     })
 }
 
@@ -129,10 +111,10 @@ fn listening_case(graph: &LearnerGraph, site: &Site, size: usize, kind: Kind) ->
 fn voting_case(graph: &LearnerGraph, seat: &Seat, size: usize) -> Option<Case> {
     let mut follower = Seat::open(graph, seat.own);
     seat.heard.iter().find_map(|message| {
-        let before = follower.clone();
+        let (before, bytes) = (follower.held(), follower.round.clone());
         let replied = follower.deliver(message).is_some() && message[3] != PROPOSAL;
-        let fits = replied && (before.held(), follower.held()) == (size, size + 2);
-        fits.then(|| case_for(graph, &before, message, &follower))
+        let fits = replied && (before, follower.held()) == (size, size + 2);
+        fits.then(|| Case { bytes, message: message.clone() })
     })
 }
 
@@ -147,17 +129,11 @@ fn busy_site(graph: &LearnerGraph, seed: u64) -> Site {
     site
 }
 
-/// A case of each size that has one: a 2a needs a quorum of 1bs beneath it.
-fn of_each(sizes: [usize; 4], find: impl Fn(u64, usize) -> Option<Case>) -> Vec<Case> {
-    sizes.iter().filter_map(|size| (1..=SEEDS).find_map(|seed| find(seed, *size))).collect()
-}
-
-pub fn listening(graph: &LearnerGraph, kind: Kind) -> Vec<Case> {
-    of_each(LISTENING, |seed, size| listening_case(graph, &busy_site(graph, seed), size, kind))
-}
-
-pub fn voting(graph: &LearnerGraph) -> Vec<Case> {
-    of_each(VOTING, |seed, size| {
-        busy_site(graph, seed).seats.iter().find_map(|seat| voting_case(graph, seat, size))
-    })
+/// A case for the task at the size.
+pub fn find(task: Task, graph: &LearnerGraph, size: usize) -> Case {
+    let in_site = |site: Site| match task {
+        Task::Answer => site.seats.iter().find_map(|seat| voting_case(graph, seat, size)),
+        _ => listening_case(graph, &site, size, task),
+    };
+    (1..=SEEDS).find_map(|seed| in_site(busy_site(graph, seed))).expect("traffic with such a case")
 }

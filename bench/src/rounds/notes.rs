@@ -416,38 +416,3 @@ impl Notes {
         (least, other)
     }
 }
-
-/// What each place reaches, itself among it, and its ballot.
-pub struct Reach {
-    of: [Places; CAPACITY],
-    ballots: [u64; CAPACITY],
-}
-
-impl Reach {
-    pub fn new(table: &Table) -> Self {
-        let mut reach = Reach { of: [0; CAPACITY], ballots: [0; CAPACITY] };
-        for place in 0..table.held() {
-            let (beneath, ballot) = match table.is_proposal(place) {
-                true => (0, table.ballot(place)),
-                false => reach.beneath(table.references(place)),
-            };
-            reach.of[place] = beneath | bit(place);
-            reach.ballots[place] = ballot;
-        }
-        reach
-    }
-
-    /// What a message with these references reaches, and its ballot.
-    fn beneath(&self, references: &[u8]) -> (Places, u64) {
-        references.iter().fold((0, 0), |(set, ballot), place| {
-            let place = usize::from(*place);
-            (set | self.of[place], ballot.max(self.ballots[place]))
-        })
-    }
-
-    /// Row 14 of a 1b whose id no place has.
-    pub fn is_crowded(&self, table: &Table, references: &[u8]) -> bool {
-        let (beneath, ballot) = self.beneath(references);
-        members(beneath).any(|place| self.ballots[place] == ballot && !table.is_proposal(place))
-    }
-}

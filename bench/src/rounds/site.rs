@@ -9,7 +9,7 @@ use reference::library;
 use reference::message::{self, Body, LONGEST};
 use reference::random::Random;
 use reference::sha256::{sha256, Id};
-use std::collections::HashMap;
+use std::collections::{HashMap, HashSet};
 
 pub const HOUSE: u16 = 1;
 pub const BAY: u16 = 12;
@@ -24,7 +24,6 @@ pub fn opened(graph: &LearnerGraph, own: Option<u8>) -> Box<Bytes> {
 }
 
 /// A round, and the messages that it accepted, in order.
-#[derive(Clone)]
 pub struct Seat {
     pub own: Option<u8>,
     pub round: Box<Bytes>,
@@ -38,11 +37,6 @@ impl Seat {
 
     pub fn held(&self) -> usize {
         Table::of(&self.round).held()
-    }
-
-    fn knows(&self, id: &Id) -> bool {
-        let table = Table::of(&self.round);
-        (0..table.held()).any(|place| table.ids()[place] == *id && table.known()[place] != 0)
     }
 
     /// Delivers a message, and gives the reply.
@@ -75,6 +69,9 @@ pub struct Site {
     /// All messages, each behind those that it refers to.
     pub log: Vec<Sent>,
     by_id: HashMap<Id, usize>,
+    /// Which seats were handed which messages. Handing one again would change nothing:
+    /// it is known by now, or not well-formed, or one too many, or refers to such a one.
+    handed: HashSet<(usize, usize)>,
     ballots: u32,
     value: u32,
 }
@@ -83,7 +80,8 @@ impl Site {
     /// A voting round for each of the numbers; a number that is given twice forks.
     pub fn open(graph: &LearnerGraph, numbers: impl Iterator<Item = u8>) -> Self {
         let seats = numbers.map(|own| Seat::open(graph, Some(own))).collect();
-        Site { seats, log: Vec::new(), by_id: HashMap::new(), ballots: 0, value: 70 }
+        let (by_id, handed) = (HashMap::new(), HashSet::new());
+        Site { seats, log: Vec::new(), by_id, handed, ballots: 0, value: 70 }
     }
 
     fn send(&mut self, bytes: Vec<u8>) -> usize {
@@ -98,19 +96,18 @@ impl Site {
         place
     }
 
-    /// Hands a message to a seat that does not know it, after all that it refers
+    /// Hands a message to a seat that was not handed it yet, after all that it refers
     /// to. A 1b returns at once; a 2a would be answered by the next one, for ever.
     /// Gives the replies.
     fn hand(&mut self, seat: usize, place: usize) -> Vec<usize> {
         let mut replies = Vec::new();
-        let bytes = self.log[place].bytes.clone();
-        if self.seats[seat].knows(&sha256(&bytes)) {
+        if !self.handed.insert((seat, place)) {
             return replies;
         }
         for reference in self.log[place].references.clone() {
             replies.extend(self.hand(seat, reference));
         }
-        if let Some(reply) = self.seats[seat].deliver(&bytes) {
+        if let Some(reply) = self.seats[seat].deliver(&self.log[place].bytes) {
             let reply = self.send(reply);
             replies.push(reply);
             if self.log[place].is_proposal() {

@@ -1,14 +1,14 @@
-//! Delivery and report as plain Rust does them best: in the lent bytes, with no
-//! heap, nothing that is worked out kept between calls.
+//! Delivery and report in hand-written Rust: one pass over all that is held, in the
+//! lent bytes, with no heap, nothing that is worked out kept between calls.
 
-use super::notes::{bit, Candidate, Names, Note, Notes, Places, Reach, FIRST};
+use super::notes::{bit, Candidate, Names, Note, Notes, Places, FIRST};
 use super::table::{self, Bytes, Entry, Table, NOWHERE, ROUND_LEN};
 use crate::messages::check;
 use reference::message::{ACCEPTOR_MESSAGE, LONGEST, PROPOSAL};
 use reference::round::CAPACITY;
 use reference::sha256::{sha256, Id};
 
-const REPORT_LEN: usize = 17;
+pub const REPORT_LEN: usize = 17;
 const PREVIOUS_AT: usize = 10;
 
 /// The answer to a reply is its length and this.
@@ -94,15 +94,10 @@ fn hold_proposal(round: &mut Bytes, message: &[u8], id: &Id) {
 }
 
 /// Row 11, and the places that a message refers to.
-fn resolve(
-    table: &Table,
-    find: impl Fn(&Id) -> Option<usize>,
-    ids: &[u8],
-    places: &mut [u8; CAPACITY],
-) -> Option<usize> {
+fn resolve(table: &Table, names: &Names, ids: &[u8], places: &mut [u8; CAPACITY]) -> Option<usize> {
     let ids = ids.as_chunks().0;
     for (id, place) in ids.iter().zip(places) {
-        let found = find(id)?;
+        let found = names.find(table.ids(), id)?;
         if table.known()[found] == 0 {
             return None;
         }
@@ -112,51 +107,15 @@ fn resolve(
 }
 
 /// Row 12, and the place of the previous message.
-fn previous(
-    table: &Table,
-    find: impl Fn(&Id) -> Option<usize>,
-    message: &[u8],
-    places: &[u8],
-) -> Option<u8> {
+fn previous(table: &Table, names: &Names, message: &[u8], places: &[u8]) -> Option<u8> {
     if message[PREVIOUS_AT - 1] == 0 {
         return Some(NOWHERE);
     }
     let id = message[PREVIOUS_AT..].first_chunk().expect("a previous id");
     // An id that is referred to names one of the places; no other has it.
-    let place = find(id).filter(|place| places.contains(&(*place as u8)))?;
+    let place = names.find(table.ids(), id).filter(|place| places.contains(&(*place as u8)))?;
     let of_signer = table.signers()[place] == message[8] && !table.is_proposal(place);
     of_signer.then_some(place as u8)
-}
-
-/// A round that only listens judges a 1b that it does not hold by what the places
-/// reach and by their ballots alone. None: it is another message.
-fn hear_first(
-    round: &mut Bytes,
-    message: &[u8],
-    start: usize,
-    id: &Id,
-) -> Result<Option<u32>, u32> {
-    let table = Table::of(round);
-    let (held, ids) = (table.held(), table.ids());
-    let named = message[start..].as_chunks().0;
-    let is_offered = |place: usize| table.is_proposal(place) && named.contains(&ids[place]);
-    let find = |id: &Id| ids[..held].iter().position(|other| other == id);
-    if table.votes() || !(0..held).any(is_offered) || find(id).is_some() {
-        return Ok(None);
-    }
-    let mut places = [0; CAPACITY];
-    let count = resolve(&table, find, &message[start..], &mut places).ok_or(11u32)?;
-    let references = &places[..count];
-    let previous = previous(&table, find, message, references).ok_or(12u32)?;
-    if Reach::new(&table).is_crowded(&table, references) {
-        return Err(14);
-    }
-    if is_full(&table, false) {
-        return Err(16);
-    }
-    let (kind, signer) = (ACCEPTOR_MESSAGE, message[8]);
-    table::hold(round, &Entry { id, kind, signer, ballot: 0, previous, references, known: 1 });
-    Ok(Some(0))
 }
 
 fn take_vote(
@@ -166,18 +125,14 @@ fn take_vote(
     reply: &mut [u8],
 ) -> Result<u32, u32> {
     let id = sha256(message);
-    if let Some(answer) = hear_first(round, message, start, &id)? {
-        return Ok(answer);
-    }
     let table = Table::of(round);
     let mut names = Names::new(table.ids(), table.held());
     let at = names.find(table.ids(), &id);
     let place = place_for(&table, at)?;
     let mut places = [0; CAPACITY];
-    let find = |id: &Id| names.find(table.ids(), id);
-    let count = resolve(&table, find, &message[start..], &mut places).ok_or(11u32)?;
+    let count = resolve(&table, &names, &message[start..], &mut places).ok_or(11u32)?;
     let references = &places[..count];
-    let previous = previous(&table, find, message, references).ok_or(12u32)?;
+    let previous = previous(&table, &names, message, references).ok_or(12u32)?;
     let signer = message[8];
     let candidate = Candidate { references, signer, name: at, link: names.link(previous) };
     let mut notes = Notes::new(&table, &names);
