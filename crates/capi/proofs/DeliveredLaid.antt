@@ -19,7 +19,7 @@ use Rattle.message.specs.declared.Reading.{Reading}
 use Rattle.message.specs.declared.Reading.the-variants.{OfProposer, OfAcceptor, Refused}
 use Rattle.message.proofs.Checks.{of-proposer}
 use Rattle.protocol.specs.Table.{Held, offers, says}
-use Rattle.round.specs.declared.Round.{Round}
+use Rattle.round.specs.Round.{Round}
 use Rattle.round.specs.declared.Outcome.the-variants as outcome
 use Rattle.round.specs.Limits.{replyLen}
 use Rattle.round.specs.Held.{votes, placeOf}

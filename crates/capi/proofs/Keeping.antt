@@ -7,7 +7,7 @@ use lib.ListN.{length, drop, length-append, length-drop}
 use borrow.Author.Tests.{le-ltb}
 use Rattle.digest.specs.Sha256.{sha256}
 use Rattle.message.specs.Writer.{fronted}
-use Rattle.round.specs.declared.Round.{Round}
+use Rattle.round.specs.Round.{Round}
 use Rattle.round.specs.declared.Opening.{Opening}
 use Rattle.round.specs.declared.Outcome.{Outcome}
 use Rattle.round.specs.declared.Outcome.the-variants as outcome
@@ -19,7 +19,10 @@ use Rattle.round.proofs.JustOpened.{opened-round}
 use Rattle.round.proofs.OneCall.{refused-leaves-all}
 use Rattle.roundbytes.specs.Layout.{roundLen, roundBytes, roundIn, Laid}
 use Rattle.roundbytes.proofs.RoundBytes.{round-reads-back}
-use Rattle.capi.specs.Round.{seat, openedTo, openTo, deliveredTo, deliverTo, bytesAfter, OfBytes, RoundInBytes}
+use Rattle.roundbytes.specs.Opening.{openedTo}
+use Rattle.engine.specs.Calls.{deliveredTo, deliverTo}
+use Rattle.engine.specs.Calls as call
+use Rattle.capi.specs.Round.{seat, openTo, bytesAfter, OfBytes, RoundInBytes}
 use Rattle.capi.proofs.OpenedLaid.{opened-laid}
 use Rattle.capi.proofs.DeliveredLaid.{delivered-laid}
 
@@ -33,6 +36,7 @@ front-long e buffer = omega (arith, length-append e (drop (length e) buffer), le
 -- ---- one delivery to the round in b
 module _ (b message reply : List ℕ) (long : roundLen ≤ length b) where
   here : deliverTo b message reply ≡ deliveredTo (delivered sha256 (roundIn b) message reply .outcome) (delivered sha256 (roundIn b) message reply .round) b
+  unfolding deliverTo
   here = simp (le-ltb (length b) roundLen long)
 
   deliver-long : roundLen ≤ length (deliverTo b message reply)
@@ -70,6 +74,7 @@ kept (deliver m reply ∷ l) b long laid typed o =
 kept (report a ∷ l) b long laid typed o = kept l b long laid typed o
 
 pub roundInBytes : RoundInBytes
+unfolding call.openTo
 roundInBytes file house bay acceptor buffer r bytes starts long l o =
     let b = openTo file house bay acceptor buffer in
     let laid = opened-laid file house bay (seat acceptor) r bytes starts in

@@ -2,8 +2,6 @@
 pub mod Bounds
 -- A round read in bytes
 pub mod Rounds
--- A round read and written in place
-pub mod InBuffer
 -- What a call on a round that is turned down leaves
 pub mod RoundCalls
 -- A round that was just opened can be laid out as bytes, and so can a round after a delivery

@@ -14,12 +14,14 @@ use Rattle.graph.specs.declared.Answer.{Answer}
 use Rattle.graph.specs.declared.Answer.the-variants.{Accepted, Refused}
 use Rattle.graph.specs.declared.Graph.{Graph}
 use Rattle.graph.specs.Limits.{maxMasks}
-use Rattle.graph.specs.File.{Got, got, no, maskAnswer, readCount, readMasks, readList, readLists, readRows, readGraph, Contents, contents, graphOf, graphAnswer}
-use Rattle.graph.specs.Held.{Held, pairList, hold, holdAll, holdRows, heldOf, nothing, graphReading, contentsReading, readingOf, Sized}
-use Rattle.graph.proofs.Reader.{GraphGot, pick-got, check-got, then-got, graph-got}
-use Rattle.graph.proofs.View.{Fits, all-fits, rows-fits}
-use Rattle.graph.proofs.Accepted.{file-got}
-use Rattle.round.specs.declared.Round.{Round}
+use Rattle.graph.specs.Answers.{graphAnswer}
+use Rattle.graphfile.specs.File.{Got, got, no, maskAnswer, readCount, readMasks, readList, readLists, readRows, readGraph, Contents, contents, graphOf}
+use Rattle.graph.specs.Held.{pairList, Sized}
+use Rattle.graphfile.specs.Held.{Held, hold, holdAll, holdRows, heldOf, nothing, graphReading, contentsReading, readingOf}
+use Rattle.graphfile.proofs.Reader.{GraphGot, pick-got, check-got, then-got, graph-got}
+use Rattle.graphfile.proofs.View.{Fits, all-fits, rows-fits}
+use Rattle.graphfile.proofs.Accepted.{file-got}
+use Rattle.round.specs.Round.{Round}
 use Rattle.round.specs.Demands.{Starts}
 use Rattle.round.proofs.JustOpened.{opens}
 use Rattle.roundbytes.specs.Layout as layout

@@ -1,14 +1,15 @@
 -- A call on a round that is turned down leaves every lent byte as it was.
 use mathlib.Core.Path.{_≡_, refl, sym}
 use mathlib.Core.Logic.{_≢_}
-use mathlib.Core.Bool.{Bool, true, false, _||_}
+use mathlib.Core.Bool.{Bool, true, false}
 use Prim.Native.Nat.{_<_}
 use native.Mathlib.Omega.{arith}
 use lib.Dec.{ltb}
 use lib.ListN.{length}
 use Rattle.base.specs.Tests.{pick}
+use Rattle.base.specs.declared.refusal.Refusal.the-variants.{Argument}
 use Rattle.digest.specs.Sha256.{sha256}
-use Rattle.round.specs.declared.Round.{Round}
+use Rattle.round.specs.Round.{Round}
 use Rattle.round.specs.declared.Opening.{Opening}
 use Rattle.round.specs.declared.Opening.the-variants as opening
 use Rattle.round.specs.declared.Outcome.{Outcome}
@@ -17,28 +18,31 @@ use Rattle.round.specs.declared.Report.{Report}
 use Rattle.round.specs.declared.Report.the-variants as answer
 use Rattle.round.specs.Opening.{opened}
 use Rattle.round.specs.Delivery.{delivered, replied}
-use Rattle.round.specs.Report.{reported}
 use Rattle.round.proofs.OneCall.{refused-leaves-all}
 use Rattle.roundbytes.specs.Layout.{roundLen, roundIn}
-use Rattle.capi.specs.Round.{seat, openNumber, openedTo, deliverNumber, deliveredTo, reportNumber, reportedTo, reportLen, OpenRefused, DeliverRefused, ReportRefused}
+use Rattle.roundbytes.specs.Opening.{openedTo}
+use Rattle.engine.specs.Calls.{openAnswer, openTo, deliverAnswer, deliveredTo, deliverTo, replyTo, reportAnswer}
+use Rattle.capi.specs.Round.{seat, openNumber, deliverNumber, reportNumber, reportedTo, reportLen, OpenRefused, DeliverRefused, ReportRefused}
 
 -- ---- opening
 pub openRefused : OpenRefused
+unfolding openAnswer openTo
 openRefused file house bay acceptor buffer = go (ltb (length buffer) roundLen) (opened file house bay (seat acceptor) .answer)
   where
-    go : (t : Bool) (a : Opening) → pick t 17 (openNumber a) ≢ 0 → pick t buffer (openedTo a (opened file house bay (seat acceptor) .round) buffer) ≡ buffer
+    go : (t : Bool) (a : Opening) → openNumber (pick t (opening.Refused Argument) a) ≢ 0 → pick t buffer (openedTo a (opened file house bay (seat acceptor) .round) buffer) ≡ buffer
     go true a k = refl
     go false opening.Opened k = absurd (k refl)
     go false (opening.Refused e) k = refl
 
 -- ---- delivering
 pub deliverRefused : DeliverRefused
+unfolding deliverAnswer deliverTo replyTo
 deliverRefused round message reply = go (ltb (length round) roundLen) (delivered sha256 r message reply .outcome) refl
   where
     r : Round
     r = roundIn round
 
-    go : (t : Bool) (o : Outcome) → o ≡ delivered sha256 r message reply .outcome → pick t 17 (deliverNumber o) ≢ 0 → pick t 17 (deliverNumber o) < 256
+    go : (t : Bool) (o : Outcome) → o ≡ delivered sha256 r message reply .outcome → deliverNumber (pick t (outcome.Refused Argument) o) ≢ 0 → deliverNumber (pick t (outcome.Refused Argument) o) < 256
         → (pick t round (deliveredTo o (delivered sha256 r message reply .round) round) ≡ round) × (pick t reply (replied sha256 r message reply) ≡ reply)
     go true o e k l = (refl, refl)
     go false outcome.Accepted e k l = absurd (k refl)
@@ -47,7 +51,7 @@ deliverRefused round message reply = go (ltb (length round) roundLen) (delivered
 
 -- ---- the report
 pub reportRefused : ReportRefused
-reportRefused round learner buffer = go (ltb (length round) roundLen || ltb (length buffer) reportLen) (reported (roundIn round) learner)
+reportRefused round learner buffer = go (ltb (length buffer) reportLen) (reportAnswer round learner)
   where
     go : (t : Bool) (a : Report) → pick t 17 (reportNumber a) ≢ 0 → pick t buffer (reportedTo a buffer) ≡ buffer
     go true a k = refl

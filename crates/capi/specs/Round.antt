@@ -1,5 +1,5 @@
--- What the calls on a round in a lent buffer answer, and each byte that they write. The layout of a round is that of roundbytes.
-use mathlib.Core.Bool.{_||_}
+-- The numbers that the calls on a round in a lent buffer answer, and each byte that they write. What each call answers as an enum, and the round's bytes
+-- afterwards, are definitions of the crate engine.
 use mathlib.Core.List.{List, [], _∷_, _++_}
 use mathlib.Core.Logic.{_≢_}
 use mathlib.Core.Path.{_≡_}
@@ -11,7 +11,7 @@ use Rattle.base.specs.Bytes.{bytes, Octets}
 use Rattle.base.specs.Refusals.{numberOf}
 use Rattle.digest.specs.Sha256.{sha256}
 use Rattle.message.specs.Writer.{fronted}
-use Rattle.round.specs.declared.Round.{Round}
+use Rattle.round.specs.Round.{Round}
 use Rattle.round.specs.declared.Opening.{Opening}
 use Rattle.round.specs.declared.Opening.the-variants as opening
 use Rattle.round.specs.declared.Outcome.{Outcome}
@@ -19,12 +19,11 @@ use Rattle.round.specs.declared.Outcome.the-variants as outcome
 use Rattle.round.specs.declared.Report.{Report}
 use Rattle.round.specs.declared.Report.the-variants as answer
 use Rattle.round.specs.Limits.{listening}
-use Rattle.round.specs.Opening.{opened}
-use Rattle.round.specs.Delivery.{delivered, replied}
-use Rattle.round.specs.Report.{reported}
 use Rattle.round.specs.Lists.{Call, deliver, report, lastRound}
 use Rattle.round.specs.Demands.{Starts}
-use Rattle.roundbytes.specs.Layout.{roundLen, roundBytes, roundIn}
+use Rattle.roundbytes.specs.Layout.{roundLen, roundIn}
+use Rattle.engine.specs.Calls as call
+use Rattle.engine.specs.Calls.{deliverTo, replyTo}
 
 -- ---- opening
 -- 0, or the number of the row that turns the call down
@@ -36,44 +35,22 @@ openNumber (opening.Refused e) = numberOf e
 abbrev pub seat : ℕ → ℕ
 seat acceptor = pick (ltb listening acceptor) 255 acceptor
 
--- the buffer after an opening: the round at its front, or all as it was
-abbrev pub openedTo : Opening → Round → List ℕ → List ℕ
-openedTo opening.Opened r buffer = fronted (roundBytes r) buffer
-openedTo (opening.Refused e) r buffer = buffer
-
--- 17 for a buffer that no round fits, before all else
 abbrev pub openAnswer : List ℕ → ℕ → ℕ → ℕ → List ℕ → ℕ
-openAnswer file house bay acceptor buffer = pick (ltb (length buffer) roundLen) 17 (openNumber (opened file house bay (seat acceptor) .answer))
+openAnswer file house bay acceptor buffer = openNumber (call.openAnswer file house bay (seat acceptor) buffer)
 
+-- the buffer afterwards
 abbrev pub openTo : List ℕ → ℕ → ℕ → ℕ → List ℕ → List ℕ
-openTo file house bay acceptor buffer =
-    pick (ltb (length buffer) roundLen) buffer (openedTo (opened file house bay (seat acceptor) .answer) (opened file house bay (seat acceptor) .round) buffer)
+openTo file house bay acceptor buffer = call.openTo file house bay (seat acceptor) buffer
 
--- ---- delivering a message
+-- ---- delivering a message; the two buffers afterwards are as engine has them
 -- 0 where nothing is sent, 256 and the length of the reply where there is one, or the number of the row
 abbrev pub deliverNumber : Outcome → ℕ
 deliverNumber outcome.Accepted = 0
 deliverNumber (outcome.Replied n) = 256 + n
 deliverNumber (outcome.Refused e) = numberOf e
 
--- the buffer of the round after a delivery: the next round at its front, or all as it was
-abbrev pub deliveredTo : Outcome → Round → List ℕ → List ℕ
-deliveredTo outcome.Accepted r buffer = fronted (roundBytes r) buffer
-deliveredTo (outcome.Replied n) r buffer = fronted (roundBytes r) buffer
-deliveredTo (outcome.Refused e) r buffer = buffer
-
--- 17 for bytes that are too few for a round, before all else
 abbrev pub deliverAnswer : List ℕ → List ℕ → List ℕ → ℕ
-deliverAnswer round message reply = pick (ltb (length round) roundLen) 17 (deliverNumber (delivered sha256 (roundIn round) message reply .outcome))
-
-abbrev pub deliverTo : List ℕ → List ℕ → List ℕ → List ℕ
-deliverTo round message reply =
-    pick (ltb (length round) roundLen) round
-    (deliveredTo (delivered sha256 (roundIn round) message reply .outcome) (delivered sha256 (roundIn round) message reply .round) round)
-
--- the reply buffer afterwards
-abbrev pub replyTo : List ℕ → List ℕ → List ℕ → List ℕ
-replyTo round message reply = pick (ltb (length round) roundLen) reply (replied sha256 (roundIn round) message reply)
+deliverAnswer round message reply = deliverNumber (call.deliverAnswer round message reply)
 
 -- ---- the report for a learner
 abbrev pub reportNumber : Report → ℕ
@@ -96,14 +73,12 @@ reportedTo (answer.Decided x) buffer = fronted (reportBytes 1 x 0) buffer
 reportedTo (answer.Split x y) buffer = fronted (reportBytes 2 x y) buffer
 reportedTo (answer.Refused e) buffer = buffer
 
--- 17 for bytes that are too few for a round, or a buffer under 17 bytes, before all else
+-- a buffer under 17 bytes is 17 before all else
 abbrev pub reportAnswer : List ℕ → ℕ → List ℕ → ℕ
-reportAnswer round learner buffer =
-    pick (ltb (length round) roundLen || ltb (length buffer) reportLen) 17 (reportNumber (reported (roundIn round) learner))
+reportAnswer round learner buffer = pick (ltb (length buffer) reportLen) 17 (reportNumber (call.reportAnswer round learner))
 
 abbrev pub reportTo : List ℕ → ℕ → List ℕ → List ℕ
-reportTo round learner buffer =
-    pick (ltb (length round) roundLen || ltb (length buffer) reportLen) buffer (reportedTo (reported (roundIn round) learner) buffer)
+reportTo round learner buffer = pick (ltb (length buffer) reportLen) buffer (reportedTo (call.reportAnswer round learner) buffer)
 
 -- ---- what holds of these calls; proofs/RoundCalls proves the first three under the same names, proofs/Keeping the last
 -- "A call turned down writes to nothing that was lent."

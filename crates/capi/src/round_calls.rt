@@ -6,13 +6,12 @@ use base::refusal::number;
 use round::Opening;
 use round::Outcome;
 use round::Report;
-use roundbytes::ROUND_LEN;
-use roundbytes::encode;
 ghost use mathlib.Core.Path.{_≡_};
 ghost use Prim.Native.Nat.{_≤_};
 ghost use lib.ListN.{length};
 ghost use Rattle.message.specs.Writer.{fronted};
-ghost use Rattle.capi.specs.Round.{seat, openAnswer, openTo, deliverAnswer, deliverTo, replyTo, reportBytes, reportAnswer, reportTo};
+ghost use Rattle.engine.specs.Calls.{deliverTo, replyTo};
+ghost use Rattle.capi.specs.Round.{seat, openAnswer, openTo, deliverAnswer, reportBytes, reportAnswer, reportTo};
 
 // What is reported,
 const UNDECIDED: u8 = 0;
@@ -59,17 +58,8 @@ pub extern "C" fn hpaxos_open(
 ) -> u32
     ensures { λ r. ⌜ (r ≡ openAnswer (now (file .entry)) house bay acceptor (now (round .entry))) × (now (round .exit) ≡ openTo (now (file .entry)) house bay acceptor (now (round .entry))) ⌝ }
 {
-    if round.len() < ROUND_LEN {
-        return number(Refusal::Argument);
-    }
-    let opened = engine::open(file, house, bay, seat_of(acceptor));
-    let answer = opened.answer;
-    let next = opened.round;
-    match answer {
-        Opening::Opened => {
-            encode(next, round);
-            0
-        }
+    match engine::open(file, house, bay, seat_of(acceptor), round) {
+        Opening::Opened => 0,
         Opening::Refused(e) => number(e),
     }
 }
@@ -79,10 +69,7 @@ pub extern "C" fn hpaxos_open(
 pub extern "C" fn hpaxos_deliver(round: &mut [u8], message: &[u8], reply: &mut [u8]) -> u32
     ensures { λ r. ⌜ (r ≡ deliverAnswer (now (round .entry)) (now (message .entry)) (now (reply .entry))) × (now (round .exit) ≡ deliverTo (now (round .entry)) (now (message .entry)) (now (reply .entry))) × (now (reply .exit) ≡ replyTo (now (round .entry)) (now (message .entry)) (now (reply .entry))) ⌝ }
 {
-    if round.len() < ROUND_LEN {
-        return number(Refusal::Argument);
-    }
-    match engine::deliver_in(round, message, reply) {
+    match engine::deliver(round, message, reply) {
         Outcome::Accepted => NO_REPLY,
         Outcome::Replied(len) => REPLY + len as u32,
         Outcome::Refused(e) => number(e),
@@ -103,13 +90,10 @@ fn put_report(out: &mut [u8], kind: u8, first: u64, second: u64)
 pub extern "C" fn hpaxos_report(round: &[u8], learner: u8, out: &mut [u8]) -> u32
     ensures { λ r. ⌜ (r ≡ reportAnswer (now (round .entry)) learner (now (out .entry))) × (now (out .exit) ≡ reportTo (now (round .entry)) learner (now (out .entry))) ⌝ }
 {
-    if round.len() < ROUND_LEN {
-        return number(Refusal::Argument);
-    }
     if out.len() < REPORT_LEN {
         return number(Refusal::Argument);
     }
-    match engine::report_in(round, learner) {
+    match engine::report(round, learner) {
         Report::Undecided => put_report(out, UNDECIDED, 0, 0),
         Report::Decided(x) => put_report(out, DECIDED, x, 0),
         Report::Split(x, y) => put_report(out, SPLIT, x, y),

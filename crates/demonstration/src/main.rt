@@ -9,9 +9,9 @@ use engine::report;
 use message::ballot::ballot_of;
 use message::write_acceptor;
 use message::write_proposal;
-use round::Delivered;
 use round::Outcome;
-use round::Round;
+use round::Report;
+use roundbytes::ROUND_LEN;
 use tell::reply_kind;
 use tell::tell_answer;
 use tell::tell_page;
@@ -43,6 +43,17 @@ struct Letter {
     ballot: u64,
 }
 
+// A party's round, as the calls keep it.
+struct Round {
+    bytes: [u8; ROUND_LEN],
+}
+
+// What a delivery answered, and the round afterwards.
+struct Taken {
+    outcome: Outcome,
+    round: Round,
+}
+
 // Parties 0 to 2 are the honest controllers, 3 to 5 the growers. The liar has no round: the program writes what it says.
 struct Site {
     parties: [Round; 6],
@@ -70,9 +81,9 @@ fn plan() -> [u8; 44] {
 // A fresh round, of a controller or listening.
 fn round_of_party(own: u16) -> Round {
     let file = plan();
-    let o = open(&file, HOUSE, BAY, own);
-    let round = o.round;
-    round
+    let mut bytes = [0u8; ROUND_LEN];
+    let _answer = open(&file, HOUSE, BAY, own, &mut bytes);
+    Round { bytes }
 }
 
 // The proposal of a round number and a value.
@@ -178,10 +189,15 @@ fn posted(s: Site, l: Letter) -> Site {
 }
 
 // Delivers a letter's message to a round.
-fn handed(l: Letter, round: Round, reply: &mut [u8]) -> Delivered {
+fn handed(l: Letter, round: Round, reply: &mut [u8]) -> Taken {
     let n = len_of(l);
     let bytes = l.bytes;
-    deliver(round, &bytes[0..n], reply)
+    let mut next = round.bytes;
+    let outcome = deliver(&mut next, &bytes[0..n], reply);
+    Taken {
+        outcome,
+        round: Round { bytes: next },
+    }
 }
 
 // Delivers letter `which` to a party, and posts the reply.
@@ -232,18 +248,24 @@ fn play(s0: Site, script: &[u8]) -> Site {
     s
 }
 
+// What a grower's round says for a learner.
+fn told(round: Round, learner: u8) -> Report {
+    let bytes = round.bytes;
+    report(&bytes, learner)
+}
+
 // The vent page of each grower.
 fn pages(s: Site) {
-    tell_page(0, report(s.parties[3], 0));
-    tell_page(1, report(s.parties[4], 1));
-    tell_page(2, report(s.parties[5], 2));
+    tell_page(0, told(s.parties[3], 0));
+    tell_page(1, told(s.parties[4], 1));
+    tell_page(2, told(s.parties[5], 2));
 }
 
 // The traffic in three parts. Letters 5 to 7 are the 1bs of controllers 0, 1 and 2 in round 5; 8 to a their 2as, and b another of controller
 // 0; c and d the 1bs of controllers 2 and 1 in round 6.
 fn main() {
     let file = plan();
-    tell_plan(graph::check(&file));
+    tell_plan(graphfile::check(&file));
     io::write_all(
         1,
         b"\nController 3 lies: its first word to grower 0 is for 70 percent, its first word to grower 1 for 40.\n",

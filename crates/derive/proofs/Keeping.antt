@@ -6,7 +6,7 @@ use Prim.Native.Nat.{ℕ, _≤_, _<_}
 use native.Mathlib.Omega.{arith}
 use lib.ListN.{getD, set}
 use lib.Seq.{getD-set-other}
-use Rattle.derive.specs.Notes.{linkKey, Filed, Marks}
+use Rattle.notes.specs.Notes.{linkKey, Filed, Marks}
 
 -- the places before n name no previous place but one before n, so the name of n changes no link of theirs
 pub marks-named : (n : ℕ) (kinds signers names previous forkLow forkHigh tops forms keyLow keyHigh : List ℕ) (low high k : ℕ) → n ≤ 128

@@ -10,10 +10,9 @@ use lib.Dec.{T, eqb, eqb→eq}
 use lib.ListN.{getD, set}
 use lib.Seq.{getD-set-same, getD-set-other}
 use Rattle.base.proofs.Tests.{dec-T, eq→eqb, and-in, or-l, or-r}
-use Rattle.scan.specs.PlaceSets.{inSet}
-use Rattle.scan.specs.Arrays.{Whole}
-use Rattle.scan.proofs.Membership.{in-zero}
-use Rattle.derive.specs.Notes.{Marked}
+use Rattle.places.specs.PlaceSets.{inSet, Whole}
+use Rattle.places.proofs.Membership.{in-zero}
+use Rattle.notes.specs.Notes.{Marked}
 
 -- a set with a place is not empty
 not-empty : (low high k : ℕ) → T (inSet low high k) → T (not (eqb low 0) || not (eqb high 0))

@@ -15,8 +15,8 @@ use Rattle.base.specs.Tests.{_∈_, pick}
 use Rattle.protocol.specs.Ids.{Id, sameId, samePrevious}
 use Rattle.protocol.specs.Table.{Held, offers, says, tabulate, heldId, heldSigner, heldPrevious, offered}
 use Rattle.protocol.proofs.Growth.{length-tabulate, at-tabulate}
-use Rattle.derive.specs.Records.{namedIn, referencesIn, recordIn, Fit}
-use Rattle.derive.specs.Notes.{Candidate}
+use Rattle.notes.specs.Records.{namedIn, referencesIn, recordIn, Fit}
+use Rattle.notes.specs.Notes.{Candidate}
 use Rattle.protocol.proofs.Ids.{sameId-law}
 use Rattle.scan.specs.Arrays.{isOffer, idIn, Lowest, Named}
 

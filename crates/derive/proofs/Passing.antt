@@ -7,20 +7,18 @@ use Prim.Native.Nat.{ℕ, zero, suc, _+_, _-_, _*_, _≤_, _<_}
 use native.Mathlib.Numerals.{add-one}
 use native.Mathlib.Omega.{arith}
 use lib.Dec.{eqb}
-use lib.ListN.{length, getD, set, take, drop}
+use lib.ListN.{getD, set, take, drop}
 use Rattle.base.specs.Tests.{_∈_}
 use Rattle.graph.specs.LearnerGraph.{LearnerGraph}
 use Rattle.protocol.specs.Table.{Held, says, tabulate, places, Ordered}
 use Rattle.protocol.proofs.Growth.{ordered-snoc, ordered-nil, length-tabulate, at-tabulate}
-use Rattle.derive.specs.declared.Worked.{Worked}
-use Rattle.scan.specs.PlaceSets.{inSet}
-use Rattle.scan.specs.Arrays.{Whole, isOffer, Beneath, idIn, Named}
-use Rattle.derive.specs.Records.{namedIn, referencesIn, recordIn, Fit}
-use Rattle.derive.specs.Notes.{Noted, NotedBy, Known, Candidate, Told}
+use Rattle.notes.specs.declared.Worked.{Worked}
+use Rattle.places.specs.PlaceSets.{inSet, Whole}
+use Rattle.scan.specs.Arrays.{isOffer, idIn, Named}
+use Rattle.notes.specs.Records.{namedIn, referencesIn, recordIn, Fit}
+use Rattle.notes.specs.Notes.{Noted, NotedBy, Known, Candidate, Told}
 use Rattle.derive.proofs.Naming.{record-signer, record-kind, record-says, record-offers, candidate}
-use Rattle.derive.specs.Reached.{ReachedBy, Reached}
-use Rattle.derive.proofs.Growing.{self-reached, noted-told, offer-reached, noted-offer, reached-more, known-more}
-use Rattle.derive.proofs.Reaching as reaching
+use Rattle.notes.proofs.Growing.{noted-told, noted-offer, known-more}
 
 -- what is asked of members holds of each entry, and 0 stands behind the last
 pub entry-below : (l : List ℕ) (k : ℕ) → 0 < k → ((j : ℕ) → j ∈ l → j < k) → (i : ℕ) → getD l i 0 < k
@@ -54,39 +52,6 @@ module _ (ids kinds signers ballots previous counts references : List ℕ) (n : 
   held-candidate p l acc names h y ey ps eps =
       candidate ids kinds signers ballots previous counts references n p fit (omega arith) names h (idIn ids p) (getD names p 0) y ps (h .each p l)
       (subst (λ (k : ℕ). (k ≡ 255) ⊎ (k < n)) (sym ey) (fit .named p l)) (λ j m. fit .back p l acc j (subst (λ (x : List ℕ). j ∈ x) eps m))
-
-  -- what place p reaches, and its ballot: an acceptor message, a proposal, and one place more
-  pub held-reached : (p : ℕ) → p < n → isOffer kinds p ≡ false → (low high tops : List ℕ) → Reached (tabulate p f) kinds low high tops → (ps : List ℕ) → ps ≡ referencesIn counts references p
-      → (lo hi bal : ℕ) (o : Bool) → Beneath low high tops kinds ps lo hi bal o → (a b : ℕ) → ((q : ℕ) → q < 128 → inSet a b q ≡ (eqb p q || inSet lo hi q))
-      → ReachedBy (tabulate (suc p) f) p a b bal
-  unfolding tabulate
-  held-reached p l acc low high tops rd ps eps lo hi bal o bt a b w =
-      let z = length-tabulate p f in
-      let few : p ≤ 128 = (let m = fit .held in omega arith) in
-      let back : (j : ℕ) → j ∈ ps → j < length (tabulate p f) = (λ j m. let g = fit .back p l acc j (subst (λ (x : List ℕ). j ∈ x) eps m) in omega arith) in
-      let same : says (idIn ids p) (getD signers p 0) (namedIn ids (getD previous p 0)) ps ≡ f p =
-      (λ e. says (idIn ids p) (getD signers p 0) (namedIn ids (getD previous p 0)) (eps e)) ∙ sym (record-says ids kinds signers ballots previous counts references p acc) in
-      subst (λ (h : Held). ReachedBy (tabulate p f ++ h ∷ []) p a b bal) same
-      (record {
-        reaches = self-reached _ (reaching.ord (tabulate p f) kinds low high tops ps rd (idIn ids p) (getD signers p 0) (namedIn ids (getD previous p 0)) p z few back) p lo hi
-            (reaching.beneath-told (tabulate p f) kinds low high tops ps rd (idIn ids p) (getD signers p 0) (namedIn ids (getD previous p 0)) p z few back lo hi bal o bt)
-            (reaching.none-told (tabulate p f) kinds low high tops ps rd (idIn ids p) (getD signers p 0) (namedIn ids (getD previous p 0)) p z few back lo hi bal o bt) a b w;
-        ballot = reaching.ballot-told (tabulate p f) kinds low high tops ps rd (idIn ids p) (getD signers p 0) (namedIn ids (getD previous p 0)) p z few back lo hi bal o bt;
-      })
-
-  pub offered-reached : (p : ℕ) → p < n → isOffer kinds p ≡ true → (a b : ℕ) → ((q : ℕ) → q < 128 → inSet a b q ≡ (eqb p q || inSet 0 0 q))
-      → ReachedBy (tabulate (suc p) f) p a b (getD ballots p 0)
-  offered-reached p l off a b w =
-      offer-reached (tabulate (suc p) f) (ordered-in (suc p) (omega arith)) p (idIn ids p) (getD signers p 0) (getD ballots p 0)
-      (at-tabulate (suc p) f p (omega arith) ∙ record-offers ids kinds signers ballots previous counts references p off) a b w
-
-  pub reach-more : (p : ℕ) → p < n → (low high tops : List ℕ) → Whole low → Whole high → Whole tops → Reached (tabulate p f) kinds low high tops → (a b e : ℕ)
-      → ReachedBy (tabulate (suc p) f) p a b e → Reached (tabulate (p + 1) f) kinds (set low p a) (set high p b) (set tops p e)
-  unfolding tabulate
-  reach-more p l low high tops h₁ h₂ h₃ rd a b e new =
-      subst (λ (m : ℕ). Reached (tabulate m f) kinds (set low p a) (set high p b) (set tops p e)) (sym (add-one p))
-      (reached-more (tabulate p f) kinds low high tops rd (f p) p (length-tabulate p f) (let z = fit .held in omega arith) (ordered-in (suc p) (omega arith))
-      (record-kind ids kinds signers ballots previous counts references p) h₁ h₂ h₃ a b e new)
 
 -- the notes of place p
 module _ (G : LearnerGraph) (ids kinds signers ballots previous counts references : List ℕ) (n : ℕ) (fit : Fit n kinds previous counts references) where

@@ -1,14 +1,14 @@
 // One place more: a message that is taken leaves the notes of the places before it as they are, so that it is noted without another pass.
-use crate::ID_LOW_AT;
-use crate::KEY_LOW_AT;
-use crate::LEARNERS_AT;
 use crate::pass::extended;
 use graph::Mask;
+use notes::ID_LOW_AT;
+use notes::KEY_LOW_AT;
+use notes::LEARNERS_AT;
 use scan::names::name_place;
 ghost use Prim.Native.Nat.{suc, _≤_};
 ghost use Rattle.graph.specs.Held.{heldGraph, Sized};
-ghost use Rattle.derive.specs.Records.{Fit, Lengths};
-ghost use Rattle.derive.specs.Lent.{Lent, notesIn};
+ghost use Rattle.notes.specs.Records.{Fit, Lengths};
+ghost use Rattle.notes.specs.Lent.{Lent, notesIn};
 ghost use Rattle.derive.specs.Complete.{Complete};
 
 // The notes of one place more than the n that they have. The n places fit without it: none of them names it as its previous message.

@@ -1,50 +1,50 @@
 // The pass over the places of a round, in order: each is worked out from the notes of those before it, and its notes are put down.
-use crate::FORK_HIGH_AT;
-use crate::FORK_LOW_AT;
-use crate::FORKED_AT;
-use crate::FORMS_AT;
-use crate::FRESH_AT;
-use crate::HIGH_AT;
-use crate::ID_LOW_AT;
-use crate::KEY_HIGH_AT;
-use crate::KEY_LOW_AT;
-use crate::LEARNERS_AT;
-use crate::Note;
-use crate::OCTETS;
-use crate::TOPS_AT;
-use crate::Worked;
-use crate::index::OFFERS;
-use crate::index::backers_of;
-use crate::index::ballot_key;
-use crate::index::mark;
-use crate::index::within;
-use crate::step::step;
 use base::size;
 use graph::Mask;
-use scan::Places;
+use notes::FORK_HIGH_AT;
+use notes::FORK_LOW_AT;
+use notes::FORKED_AT;
+use notes::FORMS_AT;
+use notes::FRESH_AT;
+use notes::HIGH_AT;
+use notes::ID_LOW_AT;
+use notes::KEY_LOW_AT;
+use notes::LEARNERS_AT;
+use notes::Note;
+use notes::TOPS_AT;
+use notes::Worked;
+use notes::index::OFFERS;
+use notes::index::backers_of;
+use notes::index::ballot_key;
+use notes::index::mark;
+use notes::index::within;
+use notes::step::step_in;
+use places::Places;
+use places::sets::with_place;
 use scan::beneath::is_crowded;
 use scan::beneath::is_grounded;
 use scan::beneath::under;
-use scan::learners::learners_for;
 use scan::names::name_of;
 use scan::names::name_places;
-use scan::sets::with_place;
+use voting::learners::learners_for;
 ghost use mathlib.Core.Path.{_≡_};
 ghost use mathlib.Core.Logic.{_⊎_};
-ghost use mathlib.Core.List.{List, []};
+ghost use mathlib.Core.List.{List};
 ghost use Prim.Native.Nat.{ℕ, suc, _≤_, _<_};
 ghost use lib.ListN.{length};
 ghost use Rattle.base.specs.Tests.{_∈_};
 ghost use Rattle.graph.specs.Held.{heldGraph, Sized};
 ghost use Rattle.protocol.specs.Table.{says, nodeBy, tree};
-ghost use Rattle.scan.specs.Arrays.{Whole, Named, idKeys, IdsIndexed};
-ghost use Rattle.derive.specs.Records.{namedIn, tableIn, Fit, Lengths};
-ghost use Rattle.derive.specs.Notes.{NotedBy, Known, Judged, Marks, Ready};
-ghost use Rattle.derive.specs.Lent.{wordsLen, Lent, notesIn, KnownIn, MarksIn, withNote, FiledIn};
-ghost use Rattle.derive.specs.Complete.{Complete};
+ghost use Rattle.scan.specs.Arrays.{Named, idKeys, IdsIndexed};
+ghost use Rattle.notes.specs.Records.{namedIn, tableIn, Fit, Lengths, Given};
+ghost use Rattle.notes.specs.Notes.{NotedBy, Known, Judged, Marks, Ready};
+ghost use Rattle.notes.specs.Lent.{wordsLen, Lent, notesIn, KnownIn, MarksIn, withNote, FiledIn};
+ghost use Rattle.derive.specs.Complete.{Complete, Extended};
 
-// The held message at place p, with the place itself among those that it reaches.
+// The held message at place p, from the notes of the places before it, with the place itself among those that it reaches.
 fn note_held<'a>(
+    words: &'a [u64],
+    octets: &'a [u8],
     lists: &'a [u8],
     masks: &'a [Mask],
     kinds: &'a [u8],
@@ -53,27 +53,15 @@ fn note_held<'a>(
     previous: &'a [u8],
     counts: &'a [u8],
     references: &'a [u8],
-    names: &'a [u8],
-    low: &'a [u64],
-    high: &'a [u64],
-    forklow: &'a [u64],
-    forkhigh: &'a [u64],
-    tops: &'a [u64],
-    learners: &'a [u8],
-    fresh: &'a [u8],
-    forms: &'a [u8],
-    keylow: &'a [u64],
-    keyhigh: &'a [u64],
     acceptors: u8,
     l: usize,
     n: usize,
     p: usize,
-    forked: Places,
 ) -> Worked
-    requires { ⌜ (p < n) × (Fit n (now kinds) (now previous) (now counts) (now references) × (Whole (now ballots) × (Whole (now counts) × ((length (now references) ≡ 16384)
-        × (Ready acceptors l n (now lists) (now masks) (now kinds) (now signers) (now names) (now previous) (now low) (now high) (now forklow) (now forkhigh) (now tops) (now learners) (now fresh) (now forms) [] × Marks p (now kinds) (now signers) (now names) (now previous) (now forklow) (now forkhigh) (now tops) (now forms) (now keylow) (now keyhigh) (forked .low) (forked .high)))))) ⌝ }
-    ensures { λ r. ⌜ ((ids : List ℕ) → Named ids n (now (names .entry))
-        → Known (heldGraph acceptors l (now (lists .entry)) (now (masks .entry))) (tableIn ids (now (kinds .entry)) (now (signers .entry)) (now (ballots .entry)) (now (previous .entry)) (now (counts .entry)) (now (references .entry)) p) (now (kinds .entry)) (now (signers .entry)) (now (low .entry)) (now (high .entry)) (now (forklow .entry)) (now (forkhigh .entry)) (now (tops .entry)) (now (learners .entry)) (now (fresh .entry)) (now (forms .entry))
+    requires { ⌜ (p < n) × (Given acceptors l n (now lists) (now masks) (now kinds) (now signers) (now ballots) (now previous) (now counts) (now references)
+        × (Lent (now words) (now octets) × MarksIn p (now kinds) (now signers) (now previous) (notesIn (now words) (now octets)))) ⌝ }
+    ensures { λ r. ⌜ ((ids : List ℕ) → Named ids n (notesIn (now (words .entry)) (now (octets .entry)) .names)
+        → KnownIn (heldGraph acceptors l (now (lists .entry)) (now (masks .entry))) (tableIn ids (now (kinds .entry)) (now (signers .entry)) (now (ballots .entry)) (now (previous .entry)) (now (counts .entry)) (now (references .entry)) p) (now (kinds .entry)) (now (signers .entry)) (notesIn (now (words .entry)) (now (octets .entry)))
         → NotedBy (heldGraph acceptors l (now (lists .entry)) (now (masks .entry))) (tableIn ids (now (kinds .entry)) (now (signers .entry)) (now (ballots .entry)) (now (previous .entry)) (now (counts .entry)) (now (references .entry)) (suc p)) p r) ⌝ }
 {
     if kinds[p] == 1 {
@@ -91,31 +79,24 @@ fn note_held<'a>(
     let from = 128 * p;
     let to = from + size(counts[p]);
     let at = size(previous[p]);
-    let r = step(
+    let signer = signers[p];
+    let name = octets[p];
+    let link = octets[at];
+    let r = step_in(
+        words,
+        octets,
         lists,
         masks,
         kinds,
         signers,
-        names,
         previous,
-        low,
-        high,
-        forklow,
-        forkhigh,
-        tops,
-        learners,
-        fresh,
-        forms,
-        keylow,
-        keyhigh,
         &references[from..to],
         acceptors,
         l,
         p,
-        signers[p],
-        names[p],
-        names[at],
-        forked,
+        signer,
+        name,
+        link,
     );
     let b = r.beneath;
     let beneath = with_place(b.low, b.high, p, true);
@@ -192,24 +173,15 @@ pub fn extended<'a>(
     from: usize,
     n: usize,
 )
-    requires { ⌜ (acceptors ≤ 32) × ((l ≤ 8) × (Sized (now lists) (now masks) × (Fit n (now kinds) (now previous) (now counts) (now references)
-        × (Whole (now kinds) × (Whole (now signers) × (Whole (now ballots) × (Whole (now previous) × (Whole (now counts) × ((length (now references) ≡ 16384)
-        × ((from ≤ n) × (Lent (now words) (now octets) × MarksIn from (now kinds) (now signers) (now previous) (notesIn (now words) (now octets))))))))))))) ⌝ }
-    ensures same { λ _. ⌜ (notesIn (now (words .exit)) (now (octets .exit)) .names ≡ notesIn (now (words .entry)) (now (octets .entry)) .names)
-        × ((notesIn (now (words .exit)) (now (octets .exit)) .idlow ≡ notesIn (now (words .entry)) (now (octets .entry)) .idlow)
-        × (notesIn (now (words .exit)) (now (octets .exit)) .idhigh ≡ notesIn (now (words .entry)) (now (octets .entry)) .idhigh)) ⌝ }
-    ensures marked { λ _. ⌜ MarksIn n (now (kinds .entry)) (now (signers .entry)) (now (previous .entry)) (notesIn (now (words .exit)) (now (octets .exit))) ⌝ }
-    ensures known { λ _. ⌜ ((ids : List ℕ) → Named ids n (notesIn (now (words .entry)) (now (octets .entry)) .names)
-        → KnownIn (heldGraph acceptors l (now (lists .entry)) (now (masks .entry))) (tableIn ids (now (kinds .entry)) (now (signers .entry)) (now (ballots .entry)) (now (previous .entry)) (now (counts .entry)) (now (references .entry)) from) (now (kinds .entry)) (now (signers .entry)) (notesIn (now (words .entry)) (now (octets .entry)))
-        → KnownIn (heldGraph acceptors l (now (lists .entry)) (now (masks .entry))) (tableIn ids (now (kinds .entry)) (now (signers .entry)) (now (ballots .entry)) (now (previous .entry)) (now (counts .entry)) (now (references .entry)) n) (now (kinds .entry)) (now (signers .entry)) (notesIn (now (words .exit)) (now (octets .exit)))) ⌝ }
+    requires { ⌜ (from ≤ n) × (Given acceptors l n (now lists) (now masks) (now kinds) (now signers) (now ballots) (now previous) (now counts) (now references)
+        × (Lent (now words) (now octets) × MarksIn from (now kinds) (now signers) (now previous) (notesIn (now words) (now octets)))) ⌝ }
+    ensures { λ _. ⌜ Extended (heldGraph acceptors l (now (lists .entry)) (now (masks .entry))) (now (kinds .entry)) (now (signers .entry)) (now (ballots .entry)) (now (previous .entry)) (now (counts .entry)) (now (references .entry)) n from n (notesIn (now (words .entry)) (now (octets .entry))) (notesIn (now (words .exit)) (now (octets .exit))) ⌝ }
 {
     let mut p: usize = from;
     while p < n {
-        let forked = Places {
-            low: words[FORKED_AT],
-            high: words[FORKED_AT + 1],
-        };
         let r = note_held(
+            words,
+            octets,
             lists,
             masks,
             kinds,
@@ -218,22 +190,10 @@ pub fn extended<'a>(
             previous,
             counts,
             references,
-            &octets[0..LEARNERS_AT],
-            &words[0..HIGH_AT],
-            &words[HIGH_AT..FORK_LOW_AT],
-            &words[FORK_LOW_AT..FORK_HIGH_AT],
-            &words[FORK_HIGH_AT..TOPS_AT],
-            &words[TOPS_AT..ID_LOW_AT],
-            &octets[LEARNERS_AT..FRESH_AT],
-            &octets[FRESH_AT..FORMS_AT],
-            &octets[FORMS_AT..OCTETS],
-            &words[KEY_LOW_AT..KEY_HIGH_AT],
-            &words[KEY_HIGH_AT..FORKED_AT],
             acceptors,
             l,
             n,
             p,
-            forked,
         );
         note_down(words, octets, r, p);
         let f = r.forks;

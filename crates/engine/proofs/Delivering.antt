@@ -13,13 +13,13 @@ use Rattle.message.specs.Reader.{reading}
 use Rattle.message.specs.declared.Reading.{Reading}
 use Rattle.message.specs.declared.Reading.the-variants.{Refused}
 use Rattle.protocol.specs.Ids.{Id}
-use Rattle.round.specs.declared.Round.{Round}
-use Rattle.round.specs.declared.Delivered.{Delivered}
+use Rattle.round.specs.Round.{Round}
+use Rattle.round.specs.Delivery.{Delivered}
 use Rattle.round.specs.Limits.{replyLen}
 use Rattle.round.specs.Handed.{fits}
 use Rattle.round.specs.Delivery.{taken, delivery, delivered, replied, refused}
-use Rattle.engine.specs.Giving.{Gives, refusal}
-use Rattle.engine.proofs.Replying.{front-none}
+use Rattle.answering.specs.Giving.{Gives, refusal}
+use Rattle.answering.proofs.Replying.{front-none}
 
 module _ (H : List ℕ → Id) (r : Round) (b buffer : List ℕ) (x : Delivered) where
   -- a round that no table can be, and a buffer that is too short

@@ -11,8 +11,8 @@ use Rattle.base.specs.Tests.{pick}
 use Rattle.base.specs.Bytes.{Octets}
 use Rattle.protocol.specs.Ids.{Id}
 use Rattle.protocol.specs.Table.{Held, offers, says, heldId, heldPrevious, offered, places}
-use Rattle.round.specs.declared.Round.{Round}
-use Rattle.round.specs.declared.Delivered.{Delivered}
+use Rattle.round.specs.Round.{Round}
+use Rattle.round.specs.Delivery.{Delivered}
 use Rattle.round.specs.Limits.{maxHeld, acceptorRoom}
 use Rattle.round.specs.Held.{votes, isKnown, placeOf}
 use Rattle.round.specs.Rows.{placed}
@@ -24,7 +24,8 @@ use Rattle.round.proofs.Holding.{Storable}
 use Rattle.round.proofs.Growing.{hold-fitting, hold-appends, hold-same}
 use Rattle.round.proofs.Marking.{returned-fitting, previous-fits}
 use Rattle.round.proofs.Entering.{room-left, room-behind}
-use Rattle.engine.specs.Giving.{Gives, Answerable, Enterable}
+use Rattle.answering.specs.Giving.{Gives, Answerable}
+use Rattle.engine.specs.Entering.{Enterable}
 use Rattle.judging.specs.Referring.{Referring}
 
 module _ (r : Round) (i : Id) (buffer : List ℕ) (can : Enterable r i buffer) where

@@ -15,12 +15,12 @@ use Rattle.graph.specs.LearnerGraph.{LearnerGraph}
 use Rattle.graph.specs.Held.{viewOf}
 use Rattle.protocol.specs.Table.{Table, Held}
 use Rattle.protocol.proofs.Growth.{length-tabulate}
-use Rattle.scan.specs.PlaceSets.{inSet}
+use Rattle.places.specs.PlaceSets.{inSet}
 use Rattle.scan.specs.Arrays.{Named, Lowest, idKeys, IdsIndexed, idIn}
-use Rattle.derive.specs.Lent.{Notes, notesIn}
-use Rattle.derive.specs.Notes.{Known, Marks, Filed, signerKey, linkKey, kindKey}
-use Rattle.derive.specs.Records.{tableIn, Fit}
-use Rattle.round.specs.declared.Round.{Round}
+use Rattle.notes.specs.Lent.{Notes, notesIn}
+use Rattle.notes.specs.Notes.{Known, Marks, Filed, signerKey, linkKey, kindKey}
+use Rattle.notes.specs.Records.{tableIn, Fit}
+use Rattle.round.specs.Round.{Round}
 use Rattle.round.specs.Held.{graphOf, recordAt}
 use Rattle.round.specs.Delivery.{hold, returned}
 use Rattle.round.specs.Limits.{maxHeld}

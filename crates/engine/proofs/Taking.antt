@@ -11,17 +11,17 @@ use Rattle.message.specs.declared.AcceptorMessage.{AcceptorMessage}
 use Rattle.message.specs.declared.Proposal.{Proposal}
 use Rattle.protocol.specs.Ids.{Id}
 use Rattle.protocol.specs.Table.{Held}
-use Rattle.round.specs.declared.Delivered.{Delivered}
+use Rattle.round.specs.Delivery.{Delivered}
 use Rattle.round.specs.Held.{placeOf}
 use Rattle.round.specs.Delivery.{decidedBy, entered, acceptorTaken}
-use Rattle.steps.proofs.Lent.{places-lent}
-use Rattle.judging.specs.declared.rows.Row.{Row}
-use Rattle.judging.specs.declared.rows.Row.the-variants.{Clear}
-use Rattle.judging.specs.Turning.{rowOf}
+use Rattle.admission.proofs.Lent.{places-lent}
+use Rattle.order.specs.declared.rows.Row.{Row}
+use Rattle.order.specs.declared.rows.Row.the-variants.{Clear}
+use Rattle.order.specs.Rows.{rowOf}
 use Rattle.judging.proofs.Voting.{heads, chains, recordTo, sounds, placesTo, rows, by-rest}
-use Rattle.engine.specs.Giving.{Gives, refusal}
-use Rattle.engine.proofs.Replying.{front-none}
-use Rattle.round.specs.declared.Round.{Round}
+use Rattle.answering.specs.Giving.{Gives, refusal}
+use Rattle.answering.proofs.Replying.{front-none}
+use Rattle.round.specs.Round.{Round}
 use Rattle.round.specs.Rows.{otherRound, isKnownId, full, proposalRows, firstOf, referenceIds, previousId}
 
 pub proposal-row : (r : Round) (i : Id) (m : Proposal)

@@ -1,20 +1,20 @@
 // An accepted message becomes known: at the place where it awaited its return, or behind the others. Then it is answered. The round stands in
 // the bytes s.
-use crate::answer::process;
-use crate::answer::process_by;
-use crate::answer::process_new;
+use admission::lookup::Found;
+use admission::lookup::place_of;
+use admission::lookup::previous_place;
+use answering::answer::process;
+use answering::answer::process_by;
+use answering::answer::process_new;
 use base::size;
 use graph::Mask;
+use holding::hold::hold_proposal;
+use holding::hold::hold_vote;
+use holding::hold::returned;
 use round::Outcome;
 use roundbytes::HELD_AT;
 use roundbytes::IDS_AT;
 use roundbytes::KINDS_AT;
-use steps::hold::hold_proposal;
-use steps::hold::hold_vote;
-use steps::hold::returned;
-use steps::lookup::Found;
-use steps::lookup::place_of;
-use steps::lookup::previous_place;
 ghost use mathlib.Core.Path.{_≡_};
 ghost use mathlib.Core.Option.{none};
 ghost use Prim.Native.Nat.{_≤_};
@@ -24,8 +24,9 @@ ghost use Rattle.protocol.specs.Table.{offers, says};
 ghost use Rattle.round.specs.Held.{placeOf};
 ghost use Rattle.round.specs.Delivery.{entered};
 ghost use Rattle.roundbytes.specs.Layout.{roundLen, roundIn, Kept};
-ghost use Rattle.steps.specs.Lent.{previousIn};
-ghost use Rattle.engine.specs.Giving.{Gives, left, Enterable};
+ghost use Rattle.admission.specs.Lent.{previousIn};
+ghost use Rattle.answering.specs.Giving.{Gives, left};
+ghost use Rattle.engine.specs.Entering.{Enterable};
 ghost use Rattle.judging.specs.Referring.{Referring};
 ghost use Rattle.judging.specs.Working.{Worked};
 

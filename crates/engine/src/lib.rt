@@ -1,28 +1,23 @@
-// What runs a round: opening one, delivering a message to it, and reporting for a learner. The rules are those of the crate round.
+// What runs a round that stands in a lent buffer: opening one, delivering a message to it, and reporting for a learner. The rules are those of the
+// crate round.
 use crate::take::take_proposal;
 use crate::take::take_vote;
+use admission::handed::fits;
+use admission::start::start;
 use base::refusal::Refusal;
 use base::size;
 use digest::sha256;
 use graph::Answer;
-use graph::read;
+use graphfile::read;
 use judging::verdict::answer_to;
 use judging::verdict::verdict_for;
 use message::Reading;
-use round::Delivered;
-use round::Opened;
+use round::Opening;
 use round::Outcome;
 use round::Report;
-use round::Round;
 use roundbytes::ROUND_LEN;
-use roundbytes::decode;
-use roundbytes::encode;
 use roundbytes::masks_in;
-use steps::handed::fits;
-use steps::start::opened_with;
-use steps::start::refused_opening;
 
-mod answer;
 mod enter;
 mod settle;
 mod take;
@@ -31,30 +26,32 @@ ghost use mathlib.Core.Path.{_≡_};
 ghost use Prim.Native.Nat.{_≤_};
 ghost use lib.ListN.{length};
 ghost use Rattle.digest.specs.Sha256.{sha256};
-ghost use Rattle.round.specs.Opening.{opened};
 ghost use Rattle.round.specs.Delivery.{delivered, replied};
 ghost use Rattle.round.specs.Report.{reported};
 ghost use Rattle.roundbytes.specs.Layout.{roundLen, roundIn, Kept};
+ghost use Rattle.engine.specs.Calls.{openAnswer, openTo, deliverAnswer, deliverTo, replyTo, reportAnswer};
 
-// Opens a round: a graph file, a house, a bay, and an acceptor number, or 256 and more for listening only.
-pub fn open(file: &[u8], house: u16, bay: u16, own: u16) -> Opened
-    ensures { λ r. ⌜ r ≡ opened (now (file .entry)) house bay own ⌝ }
+// Opens a round at the front of s: a graph file, a house, a bay, and an acceptor number, or 256 and more for listening only.
+pub fn open(file: &[u8], house: u16, bay: u16, own: u16, s: &mut [u8]) -> Opening
+    ensures { λ a. ⌜ (a ≡ openAnswer (now (file .entry)) house bay own (now (s .entry))) × (now (s .exit) ≡ openTo (now (file .entry)) house bay own (now (s .entry))) ⌝ }
 {
+    if s.len() < ROUND_LEN {
+        return Opening::Refused(Refusal::Argument);
+    }
     let reading = read(file);
     let answer = reading.answer;
     let graph = reading.graph;
     match answer {
-        Answer::Accepted => opened_with(graph, house, bay, own),
-        Answer::Refused(e) => refused_opening(e),
+        Answer::Accepted => start(graph, house, bay, own, s),
+        Answer::Refused(e) => Opening::Refused(e),
     }
 }
 
 // The bytes that the longest message takes: what a reply buffer must have.
 const REPLY_LEN: usize = 4139;
 
-// Delivers the bytes of a message to the round in the front of s, and leaves the next round there; a reply is written to the front of the
-// buffer.
-pub fn deliver_in(s: &mut [u8], bytes: &[u8], reply: &mut [u8]) -> Outcome
+// Delivers the bytes of a message to the round in the front of s, where the bytes are enough for one.
+fn deliver_in(s: &mut [u8], bytes: &[u8], reply: &mut [u8]) -> Outcome
     requires { ⌜ roundLen ≤ length (now s) ⌝ }
     ensures given { λ o. ⌜ (o ≡ delivered sha256 (roundIn (now (s .entry))) (now (bytes .entry)) (now (reply .entry)) .outcome)
         × ((roundIn (now (s .exit)) ≡ delivered sha256 (roundIn (now (s .entry))) (now (bytes .entry)) (now (reply .entry)) .round)
@@ -80,30 +77,20 @@ pub fn deliver_in(s: &mut [u8], bytes: &[u8], reply: &mut [u8]) -> Outcome
     }
 }
 
-// Puts a round to the front of a buffer, where it reads back.
-fn put_round(round: Round, s: &mut [u8])
-    requires { ⌜ roundLen ≤ length (now s) ⌝ }
-    ensures { λ _. ⌜ roundIn (now (s .exit)) ≡ round ⌝ }
+// Delivers the bytes of a message to the round in the front of s, and leaves the next round there; a reply is written to the front of its buffer.
+pub fn deliver(s: &mut [u8], bytes: &[u8], reply: &mut [u8]) -> Outcome
+    ensures { λ o. ⌜ (o ≡ deliverAnswer (now (s .entry)) (now (bytes .entry)) (now (reply .entry)))
+        × ((now (s .exit) ≡ deliverTo (now (s .entry)) (now (bytes .entry)) (now (reply .entry)))
+        × (now (reply .exit) ≡ replyTo (now (s .entry)) (now (bytes .entry)) (now (reply .entry)))) ⌝ }
 {
-    encode(round, s);
-}
-
-// Delivers the bytes of a message. The answer has the next round; a reply is written to the front of the buffer.
-pub fn deliver(round: Round, bytes: &[u8], reply: &mut [u8]) -> Delivered
-    ensures { λ r. ⌜ (r ≡ delivered sha256 round (now (bytes .entry)) (now (reply .entry))) × (now (reply .exit) ≡ replied sha256 round (now (bytes .entry)) (now (reply .entry))) ⌝ }
-{
-    let mut s = [0u8; ROUND_LEN];
-    put_round(round, &mut s);
-    let outcome = deliver_in(&mut s, bytes, reply);
-    let next = decode(&s);
-    Delivered {
-        outcome,
-        round: next,
+    if s.len() < ROUND_LEN {
+        return Outcome::Refused(Refusal::Argument);
     }
+    deliver_in(s, bytes, reply)
 }
 
-// The report for a learner, over the known messages of the round in the front of s.
-pub fn report_in(s: &[u8], learner: u8) -> Report
+// The report for a learner, over the known messages of the round in the front of s, where the bytes are enough for one.
+fn report_in(s: &[u8], learner: u8) -> Report
     requires { ⌜ roundLen ≤ length (now s) ⌝ }
     ensures { λ r. ⌜ r ≡ reported (roundIn (now (s .entry))) learner ⌝ }
 {
@@ -117,11 +104,12 @@ pub fn report_in(s: &[u8], learner: u8) -> Report
     answer_to(verdict_for(s, &masks, size(learner)))
 }
 
-// The report for a learner, over the known messages.
-pub fn report(round: Round, learner: u8) -> Report
-    ensures { λ r. ⌜ r ≡ reported round learner ⌝ }
+// The report for a learner, over the known messages of the round in the front of s.
+pub fn report(s: &[u8], learner: u8) -> Report
+    ensures { λ r. ⌜ r ≡ reportAnswer (now (s .entry)) learner ⌝ }
 {
-    let mut s = [0u8; ROUND_LEN];
-    put_round(round, &mut s);
-    report_in(&s, learner)
+    if s.len() < ROUND_LEN {
+        return Report::Refused(Refusal::Argument);
+    }
+    report_in(s, learner)
 }

@@ -2,7 +2,6 @@
 use crate::enter::enter_proposal;
 use crate::settle::settle;
 use base::refusal::Refusal;
-use judging::rows::Row;
 use judging::rows::chain_row;
 use judging::rows::head_row;
 use judging::rows::knows;
@@ -10,6 +9,7 @@ use judging::rows::lacks_room;
 use judging::rows::of_another;
 use message::AcceptorMessage;
 use message::Proposal;
+use order::rows::Row;
 use round::Outcome;
 use roundbytes::masks_in;
 ghost use mathlib.Core.Path.{_≡_};
@@ -23,7 +23,7 @@ ghost use Rattle.round.specs.Handed.{fits};
 ghost use Rattle.round.specs.Rows.{referenceIds, previousId};
 ghost use Rattle.round.specs.Delivery.{proposalTaken, acceptorTaken};
 ghost use Rattle.roundbytes.specs.Layout.{roundLen, roundIn, Kept};
-ghost use Rattle.engine.specs.Giving.{Gives, left};
+ghost use Rattle.answering.specs.Giving.{Gives, left};
 
 // A proposal: rows 8, 10 and 16.
 pub fn take_proposal(s: &mut [u8], id: &[u8], m: Proposal, reply: &mut [u8]) -> Outcome

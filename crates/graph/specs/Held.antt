@@ -1,22 +1,15 @@
--- A graph in memory: where each list of a file is held, and the learner graph that is held.
-use mathlib.Core.List.{List, [], _∷_}
+-- A graph in memory: where each list is held, and the learner graph that is held.
+use mathlib.Core.List.{List}
 use Prim.Native.Nat.{ℕ, zero, suc, _+_, _*_, _^_, min, max, _<_}
 use mathlib.Core.Path.{_≡_}
-use lib.ListN.{length, getD, set, replicate}
+use lib.ListN.{length, getD}
 use lib.Seq.{slice}
 use lib.Bits.{bitAnd}
 use lib.Dec.{eqb}
 use mathlib.Core.Bool.{Bool}
-use Rattle.base.specs.Bytes.{putAt}
-use Rattle.graph.specs.declared.Answer.{Answer}
-use Rattle.graph.specs.declared.Answer.the-variants.{Accepted, Refused}
-use Rattle.graph.specs.declared.file.Field.{Field}
-use Rattle.graph.specs.declared.file.Field.the-variants as Field
 use Rattle.graph.specs.declared.Graph.{Graph}
-use Rattle.graph.specs.declared.Reading.{Reading}
 use Rattle.graph.specs.Limits.{maxLearners, maxMasks, maskBits, lists}
 use Rattle.graph.specs.LearnerGraph.{LearnerGraph}
-use Rattle.graph.specs.File.{Got, got, no, Contents, contents, graphOf, graphAnswer}
 
 -- 1 + 2 + .. + b: the pairs a ≤ c with c below b
 unfoldable pub triangle : ℕ → ℕ
@@ -56,63 +49,3 @@ Masks l = (i : ℕ) → getD l i 0 < 2 ^ maskBits
 -- counts and masks as long as the arrays are
 abbrev pub Sized : List ℕ → List ℕ → Type 0
 Sized counts masks = (length counts ≡ lists) × (length masks ≡ maxMasks * lists)
-
--- ---- how a file's lists are put in
-pub record Held : Type 0 where
-  pub counts : List ℕ
-  pub masks : List ℕ
-
--- a list put in as list k
-abbrev pub hold : ℕ → List ℕ → Held → Held
-hold k l h = record { counts = set (h .counts) k (length l); masks = putAt (h .masks) (maxMasks * k) l }
-
--- lists put in as the lists f i, f (i + 1) and so on
-unfoldable pub holdAll : (ℕ → ℕ) → ℕ → List (List ℕ) → Held → Held
-holdAll f i [] h = h
-holdAll f i (l ∷ ls) h = holdAll f (suc i) ls (hold (f i) l h)
-
--- the rows of safe lists from learner a on
-unfoldable pub holdRows : ℕ → List (List (List ℕ)) → Held → Held
-holdRows a [] h = h
-holdRows a (row ∷ rows) h = holdRows (suc a) rows (holdAll (pairList a) a row h)
-
-abbrev pub nothing : Held
-nothing = record { counts = replicate lists 0; masks = replicate (maxMasks * lists) 0 }
-
-unfoldable pub heldOf : Contents → Held
-heldOf f = holdRows 0 (f .rows) (holdAll (λ a. a) 0 (f .quorums) nothing)
-
-abbrev pub graphOfHeld : ℕ → ℕ → Held → Graph
-graphOfHeld n l h = record { acceptors = n; learners = l; counts = h .counts; masks = h .masks }
-
--- A refused file gives a graph of zeros.
-abbrev pub refusedReading : Answer → Reading
-refusedReading r = record { answer = r; graph = graphOfHeld 0 0 nothing }
-
-abbrev pub graphReading : Contents → Answer → Reading
-graphReading f Accepted = record { answer = Accepted; graph = graphOfHeld (f .acceptors) (f .learners) (heldOf f) }
-graphReading f (Refused r) = refusedReading (Refused r)
-
-abbrev pub contentsReading : Got Contents → Reading
-contentsReading (got f at) = graphReading f (graphAnswer (graphOf f))
-contentsReading (no r) = refusedReading (Refused r)
-
--- What `read` answers.
-abbrev pub readingOf : List ℕ → Reading
-readingOf s = contentsReading (contents s)
-
--- ---- what the steps of `read` answer
--- what was read
-abbrev pub fieldOf : Got ℕ → Field
-fieldOf (got x at) = Field.Is x
-fieldOf (no r) = Field.Refused r
-
--- the masks of a list were put in from `first` on, and the place behind is the answer
-abbrev pub MasksHeld : Got (List ℕ) → Field → ℕ → List ℕ → List ℕ → Type 0
-MasksHeld (got l next) f first before after = (f ≡ Field.Is next) × (after ≡ putAt before first l)
-MasksHeld (no r) f first before after = f ≡ Field.Refused r
-
--- what was read was put in, and the place behind is the answer
-abbrev pub HeldAfter : {A : Type 0} → Got A → (A → Held) → Field → Held → Type 0
-HeldAfter (got x next) put f after = (f ≡ Field.Is next) × (after ≡ put x)
-HeldAfter (no r) put f after = f ≡ Field.Refused r

@@ -2,9 +2,9 @@
 pub mod Limits
 -- The learner graph as lists of masks: quorum, safe set, valid, condensed
 pub mod LearnerGraph
--- The graph file, read from a list of bytes
-pub mod File
+-- What a check answers
+pub mod Answers
 -- The graph in memory
 pub mod Held
--- What the check means
+-- What valid and condensed mean
 pub mod Theorems

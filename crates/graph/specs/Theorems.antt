@@ -1,15 +1,10 @@
--- What the check of a graph file means, as named statements; proofs/ proves each under the same name.
+-- What valid and condensed mean, as named statements; proofs/ proves each under the same name.
 use mathlib.Core.Path.{_≡_}
 use mathlib.Core.Logic.{_↔_}
 use mathlib.Core.Bool.{Bool}
-use mathlib.Core.List.{List}
 use Prim.Native.Nat.{ℕ, _<_}
 use lib.Dec.{T}
-use lib.ListN.{getD}
-use Rattle.graph.specs.declared.Answer.the-variants.{Accepted}
 use Rattle.graph.specs.LearnerGraph.{LearnerGraph, isQuorum, isSafe, valid, condensed}
-use Rattle.graph.specs.File.{Contents, contents, got, graphOf, answerOf}
-use Rattle.graph.specs.Held.{viewOf, readingOf}
 
 -- Sets of acceptors are tests here, of which what is said of the numbers below `acceptors` counts: every set, listed or not.
 module _ (G : LearnerGraph) where
@@ -49,23 +44,3 @@ CondensedMeans = (G : LearnerGraph) → T (condensed G) ↔ Definition5 G
 
 abbrev pub SelfAgreement : Type 0
 SelfAgreement = (G : LearnerGraph) → Undirected G → Definition5 G → Lemma6 G
-
--- ---- an accepted file
--- The graph in memory lists the same masks in the same order as the file.
-abbrev pub HeldSaysTheSame : Type 0
-HeldSaysTheSame = (s : List ℕ) → answerOf s ≡ Accepted → (f : Contents) × (end : ℕ) × (contents s ≡ got f end) × SameGraph (viewOf (readingOf s .graph)) (graphOf f)
-
--- It is undirected, valid and condensed.
-pub record Sound (G : LearnerGraph) : Type 0 where
-  pub undirected : Undirected G
-  pub isValid : T (valid G)
-  pub isCondensed : T (condensed G)
-
-abbrev pub AcceptedIsSound : Type 0
-AcceptedIsSound = (s : List ℕ) → answerOf s ≡ Accepted → Sound (viewOf (readingOf s .graph))
-
--- No two accepted files are held as the same graph.
-abbrev pub FilesDiffer : Type 0
-FilesDiffer =
-    (s t : List ℕ) → ((i : ℕ) → getD s i 0 < 256) → ((i : ℕ) → getD t i 0 < 256) → answerOf s ≡ Accepted → answerOf t ≡ Accepted
-    → SameGraph (viewOf (readingOf s .graph)) (viewOf (readingOf t .graph)) → s ≡ t

@@ -1,31 +1,21 @@
-// The learner graph of a site: its file read and checked, and its quorums and safe sets asked about.
-use base::read16;
+// The learner graph of a site in memory: its quorums and safe sets asked about, and whether it is valid and condensed.
 use base::refusal::Refusal;
 use base::refusal::number;
-use base::size;
 use condensed::is_condensed;
-use file::Field;
-use file::read_count;
-use file::read_quorums;
-use file::read_rows;
 use valid::is_valid;
 
 mod condensed;
-mod file;
 pub mod lists;
 mod valid;
 
 ghost use mathlib.Core.Path.{_≡_};
 ghost use Prim.Native.Nat.{_≤_};
-ghost use lib.ListN.{length};
-ghost use Rattle.graph.specs.Limits.{maxAcceptors, maxLearners};
-ghost use Rattle.graph.specs.File.{answerNumber, answerOf, readGraph};
-ghost use Rattle.graph.specs.Held.{refusedReading, contentsReading, readingOf};
+ghost use Rattle.graph.specs.Limits.{maxLearners};
+ghost use Rattle.graph.specs.Answers.{graphAnswer, answerNumber};
+ghost use Rattle.graph.specs.Held.{heldGraph, Sized};
 
 // A set of acceptors: bit p is acceptor p.
 pub type Mask = u32;
-
-pub const VERSION: u8 = 1;
 
 pub const MAX_ACCEPTORS: usize = 16;
 
@@ -33,7 +23,6 @@ pub const MAX_LEARNERS: usize = 8;
 
 pub const MAX_MASKS: usize = 8;
 
-pub const MASK_BYTES: usize = 2;
 // A list for each learner and one for each pair of learners, each with room for MAX_MASKS masks.
 pub const LISTS: usize = 44;
 
@@ -53,11 +42,6 @@ pub enum Answer {
     Refused(Refusal),
 }
 
-pub struct Reading {
-    pub answer: Answer,
-    pub graph: Graph,
-}
-
 // 0 for accepted, or the row's number.
 pub fn answer_number(a: Answer) -> u32
     ensures { λ n. ⌜ n ≡ answerNumber a ⌝ }
@@ -68,87 +52,22 @@ pub fn answer_number(a: Answer) -> u32
     }
 }
 
-// A file that is turned down gives a graph of zeros.
-fn refused(r: Refusal) -> Reading
-    ensures { λ x. ⌜ x ≡ refusedReading (Answer.Refused r) ⌝ }
+// Rows 6 and 7 of the lists of a graph. It asks for at most MAX_LEARNERS learners and for arrays of a graph's length, as `lists` does: whoever
+// calls it has put the lists of a file into such arrays, and has no answer to give a second test.
+pub fn graph_answer<'a>(
+    counts: &'a [u8],
+    masks: &'a [Mask],
+    acceptors: u8,
+    learners: usize,
+) -> Answer
+    requires { ⌜ (learners ≤ maxLearners) × Sized (now counts) (now masks) ⌝ }
+    ensures { λ r. ⌜ r ≡ graphAnswer (heldGraph acceptors learners (now (counts .entry)) (now (masks .entry))) ⌝ }
 {
-    let counts = [0u8; LISTS];
-    let masks = [0u32; PLACES];
-    let graph = Graph {
-        acceptors: 0,
-        learners: 0,
-        counts,
-        masks,
-    };
-    let answer = Answer::Refused(r);
-    Reading { answer, graph }
-}
-
-// The lists of a file, from byte 5 on, and then whether the graph is valid and condensed.
-fn read_lists(file: &[u8], acceptors: u8, learners: u8) -> Reading
-    requires { ⌜ (length (now file) ≤ 65537) × ((5 ≤ length (now file)) × ((acceptors ≤ maxAcceptors) × (learners ≤ maxLearners))) ⌝ }
-    ensures { λ x. ⌜ x ≡ contentsReading (readGraph (now (file .entry)) acceptors learners 5) ⌝ }
-{
-    let l = size(learners);
-    let mut counts = [0u8; LISTS];
-    let mut masks = [0u32; PLACES];
-    let at = match read_quorums(file, 5, acceptors, l, &mut counts, &mut masks) {
-        Field::Is(at) => at,
-        Field::Refused(r) => return refused(r),
-    };
-    let end = match read_rows(file, at, acceptors, l, &mut counts, &mut masks) {
-        Field::Is(end) => end,
-        Field::Refused(r) => return refused(r),
-    };
-    if end != file.len() {
-        return refused(Refusal::Length);
+    if !is_valid(counts, masks, acceptors, learners) {
+        return Answer::Refused(Refusal::NotValid);
     }
-    if !is_valid(&counts, &masks, acceptors, l) {
-        return refused(Refusal::NotValid);
+    if !is_condensed(counts, masks, acceptors, learners) {
+        return Answer::Refused(Refusal::NotCondensed);
     }
-    if !is_condensed(&counts, &masks, acceptors, l) {
-        return refused(Refusal::NotCondensed);
-    }
-    let graph = Graph {
-        acceptors,
-        learners,
-        counts,
-        masks,
-    };
-    let answer = Answer::Accepted;
-    Reading { answer, graph }
-}
-
-// Any bytes: the graph, or why they are turned down, with a graph of zeros.
-pub fn read(file: &[u8]) -> Reading
-    ensures { λ x. ⌜ x ≡ readingOf (now (file .entry)) ⌝ }
-{
-    if file.len() < 2 {
-        return refused(Refusal::Length);
-    }
-    if file.len() != 2 + read16(file, 0) {
-        return refused(Refusal::Length);
-    }
-    if file.len() < 3 {
-        return refused(Refusal::Length);
-    }
-    if file[2] != VERSION {
-        return refused(Refusal::Version);
-    }
-    if let Field::Refused(r) = read_count(file, 3, 1, MAX_ACCEPTORS) {
-        return refused(r);
-    }
-    if let Field::Refused(r) = read_count(file, 4, 1, MAX_LEARNERS) {
-        return refused(r);
-    }
-    read_lists(file, file[3], file[4])
-}
-
-// Any bytes: accepted, or why they are turned down.
-pub fn check(file: &[u8]) -> Answer
-    ensures { λ x. ⌜ x ≡ answerOf (now (file .entry)) ⌝ }
-{
-    let r = read(file);
-    let answer = r.answer;
-    answer
+    Answer::Accepted
 }

@@ -8,7 +8,7 @@ ghost use Prim.Native.Nat.{_+_, _*_, _≤_, _<_};
 fn failed(file: &[u8], answer: u32) -> u64
     ensures { λ r. ⌜ r ≤ 1 ⌝ }
 {
-    if graph::answer_number(graph::check(file)) == answer {
+    if graph::answer_number(graphfile::check(file)) == answer {
         0
     } else {
         1

@@ -12,10 +12,11 @@ use Rattle.base.specs.declared.refusal.Refusal.the-variants.{OtherRound, Signer
 use Rattle.message.specs.declared.AcceptorMessage.{AcceptorMessage}
 use Rattle.protocol.specs.Ids.{Id}
 use Rattle.protocol.specs.Message.{Message}
-use Rattle.round.specs.declared.Round.{Round}
+use Rattle.round.specs.Round.{Round}
 use Rattle.round.specs.Rows.{otherRound, foreign, isKnownId, lacks, unchained, ungrounded, acceptorRows, firstOf}
-use Rattle.judging.specs.declared.rows.Row.the-variants.{Clear, Applies}
-use Rattle.judging.specs.Turning.{rowOf, headRow, chainRow, soundRow}
+use Rattle.order.specs.declared.rows.Row.the-variants.{Clear, Applies}
+use Rattle.order.specs.Rows.{rowOf, headRow, chainRow}
+use Rattle.judging.specs.Turning.{soundRow}
 
 -- a part from the front
 pub front-part : (n : ℕ) (l : List ℕ) → take (n - 0) (drop 0 l) ≡ take n l
@@ -28,14 +29,14 @@ orElse (some e) o = some e
 
 pub acceptor-row : (r : Round) (i : Id) (m : AcceptorMessage) (previous : Option Id) (ids : List Id) (tree : Message)
     → firstOf (acceptorRows r i m previous ids tree)
-    ≡ orElse (headRow r i (m .house) (m .bay) (m .signer)) (orElse (chainRow (lacks r ids) (unchained r (m .signer) ids previous)) (soundRow r i tree))
+    ≡ orElse (headRow (otherRound r (m .house) (m .bay)) (foreign r (m .signer)) (isKnownId r i)) (orElse (chainRow (lacks r ids) (unchained r (m .signer) ids previous)) (soundRow r i tree))
 unfolding acceptorRows firstOf ungrounded
 acceptor-row r i m previous ids tree =
     head (otherRound r (m .house) (m .bay)) (foreign r (m .signer)) (isKnownId r i) _
-    ∙ ap (orElse (headRow r i (m .house) (m .bay) (m .signer))) (chain (lacks r ids) (unchained r (m .signer) ids previous) (soundRow r i tree))
+    ∙ ap (orElse (headRow (otherRound r (m .house) (m .bay)) (foreign r (m .signer)) (isKnownId r i))) (chain (lacks r ids) (unchained r (m .signer) ids previous) (soundRow r i tree))
   where
     head : (a b c : Bool) (o : Option Refusal)
-        → pick a (some OtherRound) (pick b (some Signer) (pick c (some Known) o)) ≡ orElse (pick a (some OtherRound) (pick b (some Signer) (pick c (some Known) none))) o
+        → pick a (some OtherRound) (pick b (some Signer) (pick c (some Known) o)) ≡ orElse (headRow a b c) o
     head true b c o = refl
     head false true c o = refl
     head false false true o = refl
@@ -54,34 +55,6 @@ row-applies (some x) e h = cc
 pub row-clear : (o : Option Refusal) → rowOf o ≡ Clear → o ≡ none
 row-clear none h = refl
 row-clear (some x) h = absurd (let z : _≡_ {A = ℕ} 0 1 = cc in omega arith)
-
-pub applies-clear : (e : Refusal) → Applies e ≡ Clear → ⊥
-applies-clear e h = let z : _≡_ {A = ℕ} 0 1 = cc in omega arith
-
--- ---- rows 8, 9 and 10: the first that applies is told
-module _ (a b c : Bool) where
-  pub head-other : a ≡ true → Applies OtherRound ≡ rowOf (pick a (some OtherRound) (pick b (some Signer) (pick c (some Known) none)))
-  head-other e = simp e
-
-  pub head-foreign : a ≡ false → b ≡ true → Applies Signer ≡ rowOf (pick a (some OtherRound) (pick b (some Signer) (pick c (some Known) none)))
-  head-foreign e f = simp (e, f)
-
-  pub head-known : a ≡ false → b ≡ false → c ≡ true → Applies Known ≡ rowOf (pick a (some OtherRound) (pick b (some Signer) (pick c (some Known) none)))
-  head-known e f g = simp (e, f, g)
-
-  pub head-clear : a ≡ false → b ≡ false → c ≡ false → Clear ≡ rowOf (pick a (some OtherRound) (pick b (some Signer) (pick c (some Known) none)))
-  head-clear e f g = simp (e, f, g)
-
--- ---- rows 11 and 12
-module _ (a b : Bool) where
-  pub chain-lacks : a ≡ true → Applies Reference ≡ rowOf (chainRow a b)
-  chain-lacks e = simp e
-
-  pub chain-apart : a ≡ false → b ≡ true → Applies Previous ≡ rowOf (chainRow a b)
-  chain-apart e f = simp (e, f)
-
-  pub chain-clear : a ≡ false → b ≡ false → Clear ≡ rowOf (chainRow a b)
-  chain-clear e f = simp (e, f)
 
 -- where neither applies, no reference lacks, and the previous message is named rightly
 pub chain-none : (a b : Bool) → chainRow a b ≡ none → (a ≡ false) × (b ≡ false)

@@ -19,21 +19,22 @@ use Rattle.protocol.specs.Ids.{Id}
 use Rattle.protocol.specs.Message.{Message}
 use Rattle.protocol.specs.Table.{Held, says}
 use Rattle.protocol.specs.WellFormed.{hasProposal, formed1b, formed2a}
-use Rattle.derive.specs.declared.Note.{Note}
-use Rattle.derive.specs.Notes.{Judged}
-use Rattle.round.specs.declared.Round.{Round}
+use Rattle.notes.specs.declared.Note.{Note}
+use Rattle.notes.specs.Notes.{Judged}
+use Rattle.round.specs.Round.{Round}
 use Rattle.round.specs.Held.{graphOf}
-use Rattle.round.specs.Rows.{idsFrom, referenceIds, previousId, lacks, unchained, voteRecord, messageOf, full, acceptorRows, firstOf}
+use Rattle.round.specs.Rows.{idsFrom, otherRound, foreign, isKnownId, referenceIds, previousId, lacks, unchained, voteRecord, messageOf, full, acceptorRows, firstOf}
 use Rattle.round.proofs.Fitting.{Fitting}
 use Rattle.round.proofs.Written.{counted}
 use Rattle.round.proofs.Arriving.{chain-placed}
 use Rattle.round.proofs.Marking.{previous-fits, previous-named}
-use Rattle.judging.specs.declared.rows.Row.{Row}
-use Rattle.judging.specs.declared.rows.Row.the-variants.{Clear, Applies}
-use Rattle.steps.specs.Lent.{isKnownIn, placesIn, unchainedIn}
+use Rattle.order.specs.declared.rows.Row.{Row}
+use Rattle.order.specs.declared.rows.Row.the-variants.{Clear, Applies}
+use Rattle.admission.specs.Lent.{isKnownIn, placesIn, unchainedIn}
 use Rattle.judging.specs.Referring.{Referring}
-use Rattle.judging.specs.Turning.{rowOf, headRow, chainRow, formRow, soundRow}
-use Rattle.steps.proofs.Lent.{lacks-lent, places-lent, unchained-lent, places-held}
+use Rattle.order.specs.Rows.{rowOf, headRow, chainRow, formRow}
+use Rattle.judging.specs.Turning.{soundRow}
+use Rattle.admission.proofs.Lent.{lacks-lent, places-lent, unchained-lent, places-held}
 use Rattle.judging.proofs.Ordered.{orElse, acceptor-row, row-applies, row-clear, chain-none}
 
 module _ (b : List ℕ) (m : AcceptorMessage) (reads : reading b ≡ OfAcceptor m) where
@@ -72,6 +73,9 @@ form-free true true false l e = absurd (let z : _≡_ {A = ℕ} 0 1 = cc in omeg
 form-free true false c l e = absurd (let z : _≡_ {A = ℕ} 0 1 = cc in omega arith)
 form-free false b c l e = absurd (let z : _≡_ {A = ℕ} 0 1 = cc in omega arith)
 
+pub sound-free : (r : Round) (i : Id) (m : Message) → soundRow r i m ≡ none → T (not (full r i))
+sound-free r i m h = form-free (hasProposal m) (formed1b m) (formed2a (graphOf r) m) (full r i) h
+
 -- rows 13 to 16, from what was worked out
 pub form-judged : (r : Round) (i : Id) (tree : Message) (x : Note) (l : Bool) → Judged (graphOf r) tree x → l ≡ full r i
     → formRow (x .grounded) (x .formed1b) (x .formed2a) l ≡ soundRow r i tree
@@ -95,7 +99,7 @@ module _ (r : Round) (b : List ℕ) (m : AcceptorMessage) (n at : ℕ) (same : n
 -- ---- an acceptor message with the id i, read from the bytes b: its rows in three parts, and what follows where each of them is clear
 module _ (r : Round) (i : Id) (b : List ℕ) (m : AcceptorMessage) where
   abbrev pub heads : Option Refusal
-  heads = headRow r i (m .house) (m .bay) (m .signer)
+  heads = headRow (otherRound r (m .house) (m .bay)) (foreign r (m .signer)) (isKnownId r i)
 
   abbrev pub chains : Option Refusal
   chains = chainRow (lacks r (referenceIds b m)) (unchained r (m .signer) (referenceIds b m) (previousId b m))

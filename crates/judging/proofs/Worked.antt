@@ -2,39 +2,34 @@
 use mathlib.Core.Path.{_≡_, refl, sym, ap, subst, transport, transport⁻¹, _∙_}
 use mathlib.Core.Logic.{_⊎_, inl, inr}
 use mathlib.Core.Bool.{true, false, _&&_}
-use mathlib.Core.Option.{none}
 use mathlib.Core.List.{List, [], _∷_, List·Memᴰ·head, List·Memᴰ·tail}
 use Prim.Native.Nat.{ℕ, zero, suc, _≤_, _<_}
 use native.Mathlib.Omega.{arith}
-use lib.Dec.{T, ltb, leb, ltb→lt, leb→le, not-T}
+use lib.Dec.{T, ltb, leb, ltb→lt, leb→le}
 use lib.ListN.{length, getD}
 use borrow.Author.Tests.{le-leb, lt-leb}
 use Rattle.base.specs.Tests.{_∈_, all, filter, below}
 use Rattle.base.specs.declared.refusal.Refusal.the-variants.{Argument}
 use Rattle.base.proofs.Bytes.{part-length}
-use Rattle.base.proofs.Tests.{and-l, and-r, or-out, all-out, not-true}
+use Rattle.base.proofs.Tests.{and-l, and-r, or-out, all-out}
 use Rattle.protocol.specs.Report as paper
 use Rattle.graph.specs.LearnerGraph.{LearnerGraph}
 use Rattle.graph.specs.Held.{heldGraph, Sized}
-use Rattle.protocol.specs.Ids.{Id, sameId}
-use Rattle.protocol.specs.Table.{Held, Table, at, heldId, nodeBy, tree}
+use Rattle.protocol.specs.Table.{Held, Table, nodeBy, tree}
 use Rattle.protocol.specs.Places.{reportAt}
-use Rattle.protocol.proofs.Ids.{sameId-law}
-use Rattle.derive.specs.declared.Note.{Note}
-use Rattle.derive.specs.Lent.{Notes}
-use Rattle.derive.specs.Deciding.{isKnownIn, shown}
+use Rattle.notes.specs.declared.Note.{Note}
+use Rattle.notes.specs.Lent.{Notes}
+use Rattle.deciding.specs.Deciding.{isKnownIn, shown}
 use Rattle.derive.specs.Complete.{Complete}
-use Rattle.derive.specs.Notes.{Judged}
-use Rattle.derive.specs.Records.{tableIn, Fit, Lengths}
-use Rattle.round.specs.declared.Round.{Round}
+use Rattle.notes.specs.Notes.{Judged}
+use Rattle.notes.specs.Records.{tableIn, Fit, Lengths}
+use Rattle.round.specs.Round.{Round}
 use Rattle.round.specs.declared.Report.the-variants.{Refused}
-use Rattle.round.specs.Held.{graphOf, tableOf, knownMessages, referencesAt, isProposalAt, placeOf}
+use Rattle.round.specs.Held.{graphOf, knownMessages, referencesAt, isProposalAt}
 use Rattle.round.specs.Handed.{listFits, graphFits, refersBack, fits}
 use Rattle.round.specs.Rows.{messageOf}
 use Rattle.round.specs.Report.{told, reported}
 use Rattle.round.proofs.Fitting.{Fitting, place-cases}
-use Rattle.round.proofs.Named.{place-none}
-use Rattle.round.proofs.Canonical.{table-id}
 use Rattle.roundbytes.specs.Layout.{roundLen, roundIn}
 use Rattle.roundbytes.proofs.Typing.{numbers-length}
 use Rattle.judging.specs.Telling.{answerTo}
@@ -155,6 +150,7 @@ module _ (r : Round) where
 
 -- a round in bytes has them
 pub sizes-in : (s : List ℕ) → roundLen ≤ length s → Sizes (roundIn s)
+unfolding roundIn
 sizes-in s h =
     record {
       lists = part-length 44 s 2 (omega arith);
@@ -169,20 +165,6 @@ sizes-in s h =
       known = part-length 128 s 23478 (omega arith);
       recent = part-length 128 s 23606 (omega arith);
     }
-
--- an id that names no place is none of the table's
-table-apart : (r : Round) (i : Id) → placeOf r i ≡ none → (j : ℕ) → j < r .held → sameId (heldId (at (tableOf r) j)) i ≡ false
-table-apart r i e j l =
-    let k = heldId (at (tableOf r) j) in
-    not-true (sameId k i) (not-T (sameId k i) (λ t. place-none r i e j l (sym (table-id r j l) ∙ sameId-law k i .0 t)))
-
--- the same for n held messages and ballots b that were read
-pub apart-lent : (r : Round) (n : ℕ) (b : List ℕ) → n ≡ r .held → b ≡ r .ballots → (i : Id) → placeOf r i ≡ none
-    → (j : ℕ) → j < n → sameId (heldId (at (tableTo r n b) j)) i ≡ false
-apart-lent r n b g q i e =
-    let same : ((j : ℕ) → j < n → sameId (heldId (at (tableTo r n b) j)) i ≡ false) ≡ ((j : ℕ) → j < r .held → sameId (heldId (at (tableOf r) j)) i ≡ false) =
-    λ k. (j : ℕ) → j < g k → sameId (heldId (at (tableTo r (g k) (q k)) j)) i ≡ false in
-    transport⁻¹ same (table-apart r i e)
 
 -- a place in the round's bytes stands in the buffer
 pub within : (s : List ℕ) (k : ℕ) → roundLen ≤ length s → k ≤ roundLen → k ≤ length s

@@ -7,7 +7,7 @@ use lib.Dec.{T}
 use lib.ListN.{length}
 use Rattle.base.specs.Tests.{_∈_}
 use Rattle.protocol.specs.Ids.{Id}
-use Rattle.round.specs.declared.Round.{Round}
+use Rattle.round.specs.Round.{Round}
 use Rattle.round.specs.Limits.{maxHeld}
 use Rattle.round.specs.Held.{named}
 use Rattle.round.specs.Handed.{placeFits}

@@ -1,6 +1,6 @@
 -- A verdict of the work-out pass as a report answers it.
-use Rattle.derive.specs.declared.Verdict.{Verdict}
-use Rattle.derive.specs.declared.Verdict.the-variants.{Undecided, Decided, Split}
+use Rattle.deciding.specs.declared.Verdict.{Verdict}
+use Rattle.deciding.specs.declared.Verdict.the-variants.{Undecided, Decided, Split}
 use Rattle.round.specs.declared.Report.{Report}
 use Rattle.round.specs.declared.Report.the-variants as answer
 

@@ -1,9 +1,9 @@
 -- The notes of a round's messages, in two lent arrays.
 use mathlib.Core.List.{List}
 use Prim.Native.Nat.{ℕ}
-use Rattle.derive.specs.Lent.{Lent, notesIn}
+use Rattle.notes.specs.Lent.{Lent, notesIn}
 use Rattle.derive.specs.Complete.{Complete}
-use Rattle.round.specs.declared.Round.{Round}
+use Rattle.round.specs.Round.{Round}
 use Rattle.round.specs.Held.{graphOf}
 
 -- the notes of its first n places are right

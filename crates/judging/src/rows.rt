@@ -1,16 +1,20 @@
 // Rows 8 to 16 of the table "When a call is turned down", for a message that was read. The round stands in the bytes s.
 use crate::judge::judge;
-use base::refusal::Refusal;
+use admission::lookup::previous_place;
+use admission::rows::is_awaited;
+use admission::rows::is_known;
+use admission::rows::is_unchained;
+use admission::rows::resolve;
 use base::size;
-use derive::Note;
-use derive::first::is_formed_1b;
-use derive::first::reach_held;
 use graph::Mask;
 use message::AcceptorMessage;
 use message::layout::references_at;
+use order::is_foreign;
+use order::is_full;
+use order::is_other;
+use order::rows::Row;
 use roundbytes::BALLOTS_AT;
 use roundbytes::BAY_AT;
-use roundbytes::COUNTS_AT;
 use roundbytes::HELD_AT;
 use roundbytes::HOUSE_AT;
 use roundbytes::IDS_AT;
@@ -18,44 +22,23 @@ use roundbytes::KINDS_AT;
 use roundbytes::KNOWN_AT;
 use roundbytes::OWN_AT;
 use roundbytes::RECENT_AT;
-use roundbytes::REFERENCES_AT;
 use roundbytes::SIGNERS_AT;
-use roundbytes::ballots_in;
 use roundbytes::word16;
-use steps::lookup::previous_place;
-use steps::rows::is_awaited;
-use steps::rows::is_foreign;
-use steps::rows::is_full;
-use steps::rows::is_known;
-use steps::rows::is_other;
-use steps::rows::is_unchained;
-use steps::rows::resolve;
 ghost use mathlib.Core.Path.{_≡_};
-ghost use mathlib.Core.Bool.{true};
-ghost use mathlib.Core.Option.{Option, none};
-ghost use Prim.Native.Nat.{ℕ, _+_, _*_, _≤_, _<_};
+ghost use Prim.Native.Nat.{_+_, _*_, _≤_};
 ghost use lib.Dec.{T};
 ghost use lib.ListN.{length, take};
-ghost use Rattle.base.specs.Tests.{_∈_, any};
 ghost use Rattle.message.specs.Layout.{referencesAt};
-ghost use Rattle.protocol.specs.Ids.{Id};
 ghost use Rattle.protocol.specs.Table.{says};
-ghost use Rattle.scan.specs.Arrays.{isOffer};
-ghost use Rattle.round.specs.Held.{placeOf};
 ghost use Rattle.round.specs.Handed.{fits};
-ghost use Rattle.round.specs.Rows.{otherRound, isKnownId, referenceIds, previousId, lacks, unchained, messageOf, full};
+ghost use Rattle.round.specs.Rows.{otherRound, foreign, isKnownId, referenceIds, previousId, lacks, unchained, messageOf, full};
 ghost use Rattle.roundbytes.specs.Layout.{roundLen, roundIn};
-ghost use Rattle.steps.specs.Lent.{previousIn, placesIn};
+ghost use Rattle.admission.specs.Lent.{previousIn, placesIn};
 ghost use Rattle.judging.specs.Referring.{Referring};
 ghost use Rattle.judging.specs.Working.{Worked};
-ghost use Rattle.judging.specs.Turning.{rowOf, headRow, chainRow, formRow, soundRow};
-ghost use Rattle.judging.specs.declared.rows.Row.the-variants.{Clear};
-
-// A row that applies, if one does.
-pub enum Row {
-    Clear,
-    Applies(Refusal),
-}
+ghost use Rattle.order.specs.Rows.{rowOf, headRow, chainRow};
+ghost use Rattle.order.specs.declared.rows.Row.the-variants.{Clear};
+ghost use Rattle.judging.specs.Turning.{soundRow};
 
 // Row 8.
 pub fn of_another(s: &[u8], house: u16, bay: u16) -> bool
@@ -79,18 +62,12 @@ pub fn knows<'a>(s: &'a [u8], id: &'a [u8]) -> bool
 // Rows 8 to 10 of an acceptor message.
 pub fn head_row<'a>(s: &'a [u8], id: &'a [u8], house: u16, bay: u16, signer: u8) -> Row
     requires { ⌜ (roundLen ≤ length (now s)) × ((roundIn (now s) .held ≤ 128) × (length (now id) ≡ 32)) ⌝ }
-    ensures { λ r. ⌜ r ≡ rowOf (headRow (roundIn (now (s .entry))) (now (id .entry)) house bay signer) ⌝ }
+    ensures { λ r. ⌜ r ≡ rowOf (headRow (otherRound (roundIn (now (s .entry))) house bay) (foreign (roundIn (now (s .entry))) signer) (isKnownId (roundIn (now (s .entry))) (now (id .entry)))) ⌝ }
 {
-    if of_another(s, house, bay) {
-        return Row::Applies(Refusal::OtherRound);
-    }
-    if is_foreign(s[0], signer) {
-        return Row::Applies(Refusal::Signer);
-    }
-    if knows(s, id) {
-        return Row::Applies(Refusal::Known);
-    }
-    Row::Clear
+    let other = of_another(s, house, bay);
+    let foreign = is_foreign(s[0], signer);
+    let known = knows(s, id);
+    order::rows::head_row(other, foreign, known)
 }
 
 // What rows 11 and 12 say; where neither applies, the places of the references.
@@ -113,12 +90,6 @@ pub fn chain_row<'a>(s: &'a [u8], bytes: &'a [u8], m: AcceptorMessage) -> Chaine
     let found = resolve(ids, held, &s[KNOWN_AT..RECENT_AT], bytes, at, count);
     let known = found.known;
     let places = found.places;
-    if !known {
-        return Chained {
-            row: Row::Applies(Refusal::Reference),
-            places,
-        };
-    }
     let unchained = is_unchained(
         ids,
         held,
@@ -129,16 +100,8 @@ pub fn chain_row<'a>(s: &'a [u8], bytes: &'a [u8], m: AcceptorMessage) -> Chaine
         count,
         m.signer,
     );
-    if unchained {
-        return Chained {
-            row: Row::Applies(Refusal::Previous),
-            places,
-        };
-    }
-    Chained {
-        row: Row::Clear,
-        places,
-    }
+    let row = order::rows::chain_row(!known, unchained);
+    Chained { row, places }
 }
 
 // Row 16.
@@ -149,25 +112,6 @@ pub fn lacks_room<'a>(s: &'a [u8], id: &'a [u8]) -> bool
     let held = size(s[HELD_AT]);
     let awaited = is_awaited(&s[IDS_AT..KINDS_AT], held, &s[KNOWN_AT..RECENT_AT], id);
     is_full(s[HELD_AT], word16(s, OWN_AT), awaited)
-}
-
-// Rows 13 to 16, from what was worked out.
-fn form_row(note: Note, lacks: bool) -> Row
-    ensures { λ r. ⌜ r ≡ rowOf (formRow (note .grounded) (note .formed1b) (note .formed2a) lacks) ⌝ }
-{
-    if !note.grounded {
-        return Row::Applies(Refusal::NoProposal);
-    }
-    if !note.formed1b {
-        return Row::Applies(Refusal::Malformed1b);
-    }
-    if !note.formed2a {
-        return Row::Applies(Refusal::Malformed2a);
-    }
-    if lacks {
-        return Row::Applies(Refusal::Full);
-    }
-    Row::Clear
 }
 
 // Rows 13 to 16 of an acceptor message, whose references are the first `count` of some places, and whose previous id stands in its bytes.
@@ -190,43 +134,5 @@ pub fn sound_row<'a>(
     let at = previous_place(&s[IDS_AT..KINDS_AT], held, bytes, previous);
     let note = judge(s, masks, words, octets, id, &places[0..count], signer, at);
     let lacks = lacks_room(s, id);
-    form_row(note, lacks)
-}
-
-// The same of a 1b that the round does not hold: learners are not asked.
-pub fn first_row<'a>(s: &'a [u8], id: &'a [u8], places: &'a [u8], count: usize) -> Row
-    requires { ⌜ (roundLen ≤ length (now s)) × (T (fits (roundIn (now s))) × ((length (now id) ≡ 32) × ((count ≤ length (now places)) × ((placeOf (roundIn (now s)) (now id) ≡ none)
-        × ((any (isOffer (roundIn (now s) .kinds)) (take count (now places)) ≡ true) × ((j : ℕ) → j ∈ take count (now places) → j < roundIn (now s) .held)))))) ⌝ }
-    ensures { λ x. ⌜ ((signer : ℕ) (prev : Option Id) → x ≡ rowOf (soundRow (roundIn (now (s .entry))) (now (id .entry)) (messageOf (roundIn (now (s .entry))) (says (now (id .entry)) signer prev (take count (now (places .entry))))))) ⌝ }
-{
-    let held = size(s[HELD_AT]);
-    let ballots = ballots_in(s);
-    let mut low = [0u64; 128];
-    let mut high = [0u64; 128];
-    let mut tops = [0u64; 128];
-    reach_held(
-        &mut low,
-        &mut high,
-        &mut tops,
-        &s[KINDS_AT..SIGNERS_AT],
-        &ballots,
-        &s[COUNTS_AT..REFERENCES_AT],
-        &s[REFERENCES_AT..KNOWN_AT],
-        held,
-    );
-    let formed1b = is_formed_1b(
-        &s[KINDS_AT..SIGNERS_AT],
-        &low,
-        &high,
-        &tops,
-        &places[0..count],
-        held,
-    );
-    let note = Note {
-        grounded: true,
-        formed1b,
-        formed2a: true,
-    };
-    let lacks = lacks_room(s, id);
-    form_row(note, lacks)
+    order::rows::form_row(note.grounded, note.formed1b, note.formed2a, lacks)
 }

@@ -159,17 +159,29 @@ fn framed(m0: [u8; 4300], len: usize) -> [u8; 4300]
     m
 }
 
-// An acceptor message as document 01 lays it out, of acceptor 0 for house 1 and bay 12: the count stands at `at`, n ids stand behind it, and the id in place k begins with the byte k + 1.
-fn acceptor(marker: u8, at: usize, count: u8, n: usize) -> [u8; 4300]
-    requires { ⌜ (10 ≤ at) × ((at ≤ 42) × (n ≤ 130)) ⌝ }
+fn blank() -> [u8; 4300] {
+    [0u8; 4300]
+}
+
+// The front of an acceptor message of acceptor 0 for house 1 and bay 12, but for its outer length; the count stands at `at`.
+fn fronted(m0: [u8; 4300], marker: u8, at: usize, count: u8) -> [u8; 4300]
+    requires { ⌜ at ≤ 42 ⌝ }
 {
-    let mut m = [0u8; 4300];
+    let mut m = m0;
     m[2] = 1;
     m[3] = 2;
     m[5] = 1;
     m[7] = 12;
     m[9] = marker;
     m[at] = count;
+    m
+}
+
+// An acceptor message as document 01 lays it out: n ids stand behind the count, and the id in place k begins with the byte k + 1.
+fn acceptor(marker: u8, at: usize, count: u8, n: usize) -> [u8; 4300]
+    requires { ⌜ (10 ≤ at) × ((at ≤ 42) × (n ≤ 130)) ⌝ }
+{
+    let mut m = fronted(blank(), marker, at, count);
     let mut k: usize = 0;
     while k < n {
         m[at + 1 + 32 * k] = (k + 1) as u8;

@@ -20,7 +20,7 @@ use Rattle.protocol.specs.Ids.{Id}
 use Rattle.protocol.specs.Message.{isProposal, previous, is1b}
 use Rattle.protocol.specs.WellFormed.{linked, chained, formed1b}
 use Rattle.protocol.specs.Table.{Held, offers, heldId, heldPrevious, offered, places, nodeBy, tree, joint, contentOf}
-use Rattle.round.specs.declared.Round.{Round}
+use Rattle.round.specs.Round.{Round}
 use Rattle.round.specs.Limits.{maxHeld}
 use Rattle.round.specs.Held.{isKnown, tableOf, placeOf}
 use Rattle.round.specs.Rows.{idsFrom, referenceIds, previousId, orZero, isKnownId, lacks, voteRecord, messageOf, proposalRows, acceptorRows, firstOf}

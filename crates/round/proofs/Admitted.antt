@@ -18,7 +18,7 @@ use Rattle.protocol.specs.Ids.{Id}
 use Rattle.protocol.specs.Message.{Message}
 use Rattle.protocol.specs.WellFormed.{formed1b, formed2a, hasProposal}
 use Rattle.protocol.specs.Table.{Held, offers}
-use Rattle.round.specs.declared.Round.{Round}
+use Rattle.round.specs.Round.{Round}
 use Rattle.round.specs.declared.Outcome.the-variants as outcome
 use Rattle.round.specs.Limits.{replyLen}
 use Rattle.round.specs.Held.{graphOf, votes, placeOf}

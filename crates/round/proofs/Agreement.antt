@@ -16,7 +16,7 @@ use Rattle.protocol.specs.Table.{messages}
 use Rattle.protocol.specs.Theorems.{SoundGraph, Lawful, Entangled, Within}
 use Rattle.protocol.proofs.Agreement.{entangled-turned, entangled-self}
 use Rattle.protocol.proofs.Tables.{messages-out, lawful}
-use Rattle.round.specs.declared.Round.{Round}
+use Rattle.round.specs.Round.{Round}
 use Rattle.round.specs.declared.Report.the-variants.{Decided, Split}
 use Rattle.round.specs.Held.{graphOf, tableOf, knownPlaces}
 use Rattle.round.specs.Lists.{Call, run, lastRound, accepted, written, reports}

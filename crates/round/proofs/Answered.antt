@@ -23,7 +23,7 @@ use Rattle.protocol.proofs.Ballot.{ballot-above}
 use Rattle.protocol.proofs.Places.{is1b-at}
 use Rattle.protocol.proofs.Table.{at-past, nothing-past, tree-is, tree-proposal, reach-cases, reach-le, reach-self, reach-step, tran-places}
 use Rattle.protocol.proofs.Growth.{at-append, at-end, tree-end, ordered-snoc}
-use Rattle.round.specs.declared.Round.{Round}
+use Rattle.round.specs.Round.{Round}
 use Rattle.round.specs.declared.Outcome.the-variants as outcome
 use Rattle.round.specs.Limits.{maxHeld, acceptorRoom, listening}
 use Rattle.round.specs.Held.{graphOf, votes, idAt, isRecent, isProposalAt, signerAt, previousAt, referencesAt, recordAt, tableOf, isKnown, placeOf}

@@ -17,7 +17,7 @@ use Rattle.message.specs.declared.Reading.{Reading}
 use Rattle.message.specs.declared.Reading.the-variants.{OfAcceptor, Refused}
 use Rattle.protocol.specs.Ids.{Id}
 use Rattle.protocol.specs.Table.{Held, heldId, heldPrevious, offered, places, joint, contentOf}
-use Rattle.round.specs.declared.Round.{Round}
+use Rattle.round.specs.Round.{Round}
 use Rattle.round.specs.declared.Outcome.the-variants as outcome
 use Rattle.round.specs.Limits.{maxHeld, noPlace}
 use Rattle.round.specs.Held.{votes, idAt, named, tableOf}

@@ -12,7 +12,7 @@ use Rattle.protocol.specs.Message.{Message, acceptor, listed, idOf, signer, pre
 use Rattle.protocol.specs.WellFormed.{isPrevious, linked, chained}
 use Rattle.protocol.specs.Table.{Held, offers, says, at, heldId, heldSigner, offered, gather, nodeBy, treeIn, tree}
 use Rattle.protocol.proofs.Ids.{sameId-law}
-use Rattle.round.specs.declared.Round.{Round}
+use Rattle.round.specs.Round.{Round}
 use Rattle.round.specs.Held.{idAt, isKnown, isProposalAt, signerAt, tableOf, placeOf}
 use Rattle.round.specs.Rows.{placed, orZero, isKnownId, isVoteOf, unchained}
 use Rattle.round.proofs.Named.{place-some}

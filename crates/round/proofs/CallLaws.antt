@@ -5,9 +5,9 @@ use mathlib.Core.Option.{none}
 use mathlib.Core.List.{List}
 use Prim.Native.Nat.{ℕ, _<_}
 use lib.Dec.{T}
-use Rattle.graph.specs.Held.{readingOf}
+use Rattle.graphfile.specs.Held.{readingOf}
 use Rattle.protocol.specs.Theorems.{SoundGraph, Peopled}
-use Rattle.round.specs.declared.Round.{Round}
+use Rattle.round.specs.Round.{Round}
 use Rattle.round.specs.Held.{graphOf, named}
 use Rattle.round.specs.Handed.{fits}
 use Rattle.round.specs.Demands.{Starts, Typed, RefusedLeavesAll}

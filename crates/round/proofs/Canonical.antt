@@ -15,7 +15,7 @@ use Rattle.protocol.specs.Ids.{Id, sameId}
 use Rattle.protocol.specs.Table.{Held, offers, says, Table, at, heldId, places, idsAt, contentOf}
 use Rattle.protocol.proofs.Ids.{sameId-law}
 use Rattle.protocol.proofs.Growth.{at-append, length-tabulate, at-tabulate}
-use Rattle.round.specs.declared.Round.{Round}
+use Rattle.round.specs.Round.{Round}
 use Rattle.round.specs.Held.{idAt, isProposalAt, signerAt, previousAt, referencesAt, recordAt, tableOf, lowest, placeOf}
 
 -- ---- the lowest number that passes

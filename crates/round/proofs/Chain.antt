@@ -8,7 +8,7 @@ use lib.ListN.{length, take}
 use Rattle.base.specs.declared.refusal.Refusal.{Refusal}
 use Rattle.message.specs.Writer.{fronted}
 use Rattle.protocol.specs.Ids.{Id}
-use Rattle.round.specs.declared.Round.{Round}
+use Rattle.round.specs.Round.{Round}
 use Rattle.round.specs.declared.Outcome.{Outcome}
 use Rattle.round.specs.declared.Outcome.the-variants as outcome
 use Rattle.round.specs.Held.{named}

@@ -5,11 +5,12 @@ use Prim.Native.Nat.{ℕ, _<_}
 use Rattle.digest.specs.Sha256.{sha256}
 use Rattle.graph.specs.declared.Answer.the-variants.{Accepted}
 use Rattle.graph.specs.declared.Graph.{Graph}
-use Rattle.graph.specs.File.{answerOf}
-use Rattle.graph.specs.Held.{viewOf, readingOf}
-use Rattle.graph.proofs.Whole.{reading-answer}
-use Rattle.graph.proofs.Accepted.{acceptedIsSound, undirected-symmetric}
-use Rattle.graph.proofs.Peopled.{accepted-peopled}
+use Rattle.graphfile.specs.File.{answerOf}
+use Rattle.graph.specs.Held.{viewOf}
+use Rattle.graphfile.specs.Held.{readingOf}
+use Rattle.graphfile.proofs.Whole.{reading-answer}
+use Rattle.graphfile.proofs.Accepted.{acceptedIsSound, undirected-symmetric}
+use Rattle.graphfile.proofs.Peopled.{accepted-peopled}
 use Rattle.protocol.specs.Theorems.{SoundGraph, Peopled}
 use Rattle.round.specs.Demands.{AgreementOverLists, ChainOfReplies, DemandThree, ReachedFits, KnownBeneath, ValidityOverLists}
 use Rattle.round.proofs.CallLaws.{OpeningLaw, CallLaws}

@@ -10,7 +10,7 @@ use lib.Dec.{T, leb, ltb, nleb→lt}
 use Rattle.base.specs.Tests.{pick}
 use Rattle.protocol.specs.Ids.{Id}
 use Rattle.protocol.specs.Table.{Held}
-use Rattle.round.specs.declared.Round.{Round}
+use Rattle.round.specs.Round.{Round}
 use Rattle.round.specs.Limits.{maxHeld, acceptorRoom, listening}
 use Rattle.round.specs.Held.{votes, idAt, named, isKnown, placeOf}
 use Rattle.round.specs.Rows.{placed}

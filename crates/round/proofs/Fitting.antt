@@ -11,7 +11,7 @@ use Rattle.base.specs.Tests.{pick, all, below}
 use Rattle.base.proofs.Tests.{and-in, and-l, and-r, or-l, or-r, or-out, all-in, all-out, below-in, below-out, eq→eqb}
 use Rattle.protocol.specs.Ids.{Id}
 use Rattle.protocol.specs.Table.{offers, says}
-use Rattle.round.specs.declared.Round.{Round}
+use Rattle.round.specs.Round.{Round}
 use Rattle.round.specs.Limits.{maxHeld, noPlace}
 use Rattle.round.specs.Held.{idAt, referencesAt, named, recordAt}
 use Rattle.round.specs.Handed.{placeFits, refersBack, messageFits, graphFits, ownFits, fits}

@@ -11,10 +11,12 @@ use Rattle.base.proofs.Tests.{and-in, or-r, all-in}
 use Rattle.graph.specs.declared.Answer.{Answer}
 use Rattle.graph.specs.declared.Answer.the-variants.{Accepted, Refused}
 use Rattle.graph.specs.Limits.{maxAcceptors, maxLearners, maxMasks, lists}
-use Rattle.graph.specs.File.{Got, got, no, Contents, contents, graphOf, graphAnswer}
-use Rattle.graph.proofs.Reader.{Small, Rows, GraphGot, graph-got}
-use Rattle.graph.proofs.Accepted.{FileGot, file-got}
-use Rattle.graph.specs.Held.{Held, pairList, hold, holdAll, holdRows, heldOf, nothing, graphOfHeld, graphReading, contentsReading, readingOf}
+use Rattle.graph.specs.Answers.{graphAnswer}
+use Rattle.graphfile.specs.File.{Got, got, no, Contents, contents, graphOf}
+use Rattle.graphfile.proofs.Reader.{Small, Rows, GraphGot, graph-got}
+use Rattle.graphfile.proofs.Accepted.{FileGot, file-got}
+use Rattle.graph.specs.Held.{pairList}
+use Rattle.graphfile.specs.Held.{Held, hold, holdAll, holdRows, heldOf, nothing, graphOfHeld, graphReading, contentsReading, readingOf}
 use Rattle.round.specs.Handed.{inUse, listFits, graphFits}
 
 -- ---- lists held

@@ -12,7 +12,7 @@ use Rattle.base.proofs.Tests.{and-in, or-l, or-r, or-out, all-in, dec-T, neqb�
 use Rattle.base.proofs.Cuts.{length-put}
 use Rattle.message.specs.Layout.{idLen, proposalKind}
 use Rattle.protocol.specs.Table.{Held, heldId, heldSigner, heldPrevious, offered, places}
-use Rattle.round.specs.declared.Round.{Round}
+use Rattle.round.specs.Round.{Round}
 use Rattle.round.specs.Limits.{maxHeld}
 use Rattle.round.specs.Held.{idAt, isProposalAt}
 use Rattle.round.specs.Handed.{placeFits, ownFits, refersBack}

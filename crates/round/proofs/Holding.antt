@@ -13,7 +13,7 @@ use Rattle.base.specs.Bytes.{part, putAt, Octets}
 use Rattle.base.proofs.Cuts.{part-put-front}
 use Rattle.message.specs.Layout.{idLen, proposalKind, acceptorKind}
 use Rattle.protocol.specs.Table.{Held, offers, says, tabulate, heldId, heldSigner, heldPrevious, offered, places}
-use Rattle.round.specs.declared.Round.{Round}
+use Rattle.round.specs.Round.{Round}
 use Rattle.round.specs.Limits.{maxHeld, noPlace}
 use Rattle.round.specs.Held.{idAt, named, previousAt, referencesAt, recordAt, tableOf}
 use Rattle.round.specs.Handed.{placeFits}

@@ -11,7 +11,7 @@ use Rattle.base.specs.Tests.{_∈_, pick}
 use Rattle.base.specs.Bytes.{part}
 use Rattle.message.specs.Layout.{idLen}
 use Rattle.message.specs.Order.{before, ascending}
-use Rattle.round.specs.declared.Round.{Round}
+use Rattle.round.specs.Round.{Round}
 use Rattle.round.specs.Held.{idAt}
 use Rattle.round.specs.Rows.{idsFrom}
 use Rattle.round.specs.Reply.{joined}

@@ -15,10 +15,10 @@ use Rattle.message.specs.Layout.{idLen}
 use Rattle.graph.specs.declared.Answer.{Answer}
 use Rattle.graph.specs.declared.Answer.the-variants.{Accepted, Refused}
 use Rattle.graph.specs.declared.Graph.{Graph}
-use Rattle.graph.specs.declared.Reading.{Reading}
-use Rattle.graph.specs.Held.{readingOf}
+use Rattle.graphfile.specs.declared.Reading.{Reading}
+use Rattle.graphfile.specs.Held.{readingOf}
 use Rattle.protocol.specs.Table.{tabulate}
-use Rattle.round.specs.declared.Round.{Round}
+use Rattle.round.specs.Round.{Round}
 use Rattle.round.specs.declared.Opening.the-variants as opening
 use Rattle.round.specs.Limits.{maxHeld, noPlace, listening}
 use Rattle.round.specs.Held.{named, tableOf, knownPlaces}

@@ -15,7 +15,7 @@ use Rattle.protocol.specs.Table.{Table, at, heldId, offered, content}
 use Rattle.protocol.specs.Theorems.{Within, Accepted}
 use Rattle.protocol.specs.Theorems as theorems
 use Rattle.protocol.proofs.Accepted.{reach-accepted}
-use Rattle.round.specs.declared.Round.{Round}
+use Rattle.round.specs.Round.{Round}
 use Rattle.round.specs.declared.Report.{Report}
 use Rattle.round.specs.Held.{tableOf, isKnown, knownPlaces}
 use Rattle.round.specs.Lists.{Call, run, lastRound, accepted, written, reports}

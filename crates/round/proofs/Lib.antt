@@ -80,6 +80,3 @@ pub mod Storing
 pub mod Answered
 -- A report that is always undecided, an invented reply length
 pub mod ShutOut
--- ---- the papers' examples
--- The starred cases of document 01
-pub mod Cases

@@ -14,7 +14,7 @@ use Rattle.message.specs.Writer.{fronted}
 use Rattle.protocol.specs.Ids.{Id}
 use Rattle.protocol.specs.Theorems.{Within}
 use Rattle.protocol.specs.Table.{Table, tabulate}
-use Rattle.round.specs.declared.Round.{Round}
+use Rattle.round.specs.Round.{Round}
 use Rattle.round.specs.declared.Outcome.{Outcome}
 use Rattle.round.specs.declared.Outcome.the-variants as outcome
 use Rattle.round.specs.declared.Report.{Report}

@@ -13,7 +13,7 @@ use borrow.Author.Tests.{eq-eqb, ne-eqb}
 use Rattle.base.specs.Tests.{pick}
 use Rattle.base.proofs.Tests.{dec-T, neqb→ne, not-true}
 use Rattle.protocol.specs.Ids.{Id}
-use Rattle.round.specs.declared.Round.{Round}
+use Rattle.round.specs.Round.{Round}
 use Rattle.round.specs.Limits.{maxHeld, noPlace}
 use Rattle.round.specs.Held.{idAt, named, isKnown}
 use Rattle.round.specs.Handed.{placeFits, ownFits, refersBack}

@@ -10,7 +10,7 @@ use Rattle.base.specs.Tests.{pick}
 use Rattle.base.proofs.Tests.{dec-T, neqb→ne}
 use Rattle.protocol.specs.Ids.{Id, sameId}
 use Rattle.protocol.proofs.Ids.{sameId-law}
-use Rattle.round.specs.declared.Round.{Round}
+use Rattle.round.specs.Round.{Round}
 use Rattle.round.specs.Held.{idAt, lowest, placeOf}
 
 -- ---- the least number below n that passes

@@ -11,7 +11,7 @@ use Rattle.message.specs.declared.Proposal.{Proposal}
 use Rattle.message.specs.declared.AcceptorMessage.{AcceptorMessage}
 use Rattle.protocol.specs.Ids.{Id}
 use Rattle.protocol.specs.Message.{Message}
-use Rattle.round.specs.declared.Round.{Round}
+use Rattle.round.specs.Round.{Round}
 use Rattle.round.specs.Rows.{isKnownId, lacks, unchained, malformed1b, full, proposalRows, acceptorRows, firstOf}
 use Rattle.round.specs.Demands.{RowsInOrder}
 

@@ -12,7 +12,7 @@ use Rattle.base.specs.Tests.{_∈_}
 use Rattle.base.proofs.Tests.{or-l}
 use Rattle.protocol.specs.Ids.{Id}
 use Rattle.protocol.specs.Table.{Table, Held, places, nodeBy, tree}
-use Rattle.round.specs.declared.Round.{Round}
+use Rattle.round.specs.Round.{Round}
 use Rattle.round.specs.declared.Outcome.{Outcome}
 use Rattle.round.specs.declared.Outcome.the-variants as outcome
 use Rattle.round.specs.Held.{tableOf, isKnown, placeOf}

@@ -14,7 +14,7 @@ use Rattle.base.proofs.Tests.{dec-T, neqb→ne}
 use Rattle.message.specs.Layout.{proposalKind}
 use Rattle.protocol.specs.Ids.{Id}
 use Rattle.protocol.specs.Table.{Held, offered}
-use Rattle.round.specs.declared.Round.{Round}
+use Rattle.round.specs.Round.{Round}
 use Rattle.round.specs.Limits.{maxHeld, noPlace}
 use Rattle.round.specs.Held.{idAt, named, isRecent, isProposalAt}
 use Rattle.round.specs.Delivery.{hold, withRecent, recentWith}

@@ -9,7 +9,7 @@ use Rattle.base.specs.Tests.{_∈_, pick}
 use Rattle.protocol.specs.Ids.{Id}
 use Rattle.protocol.specs.Table.{offers, says, at, heldId, heldSigner, offered, idsAt}
 use Rattle.protocol.proofs.Growth.{at-tabulate}
-use Rattle.round.specs.declared.Round.{Round}
+use Rattle.round.specs.Round.{Round}
 use Rattle.round.specs.Held.{idAt, signerAt, isProposalAt, previousAt, referencesAt, recordAt, tableOf}
 use Rattle.round.proofs.Order.{idsOf}
 

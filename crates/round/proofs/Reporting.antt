@@ -16,7 +16,7 @@ use Rattle.protocol.specs.Theorems.{SoundGraph, Lawful, Entangled, Within}
 use Rattle.protocol.proofs.Agreement.{no-split, reportsAgree}
 use Rattle.protocol.proofs.Growth.{messages-append}
 use Rattle.protocol.proofs.Tables.{messages-within}
-use Rattle.round.specs.declared.Round.{Round}
+use Rattle.round.specs.Round.{Round}
 use Rattle.round.specs.declared.Report.{Report}
 use Rattle.round.specs.declared.Report.the-variants.{Decided, Split}
 use Rattle.round.specs.Held.{graphOf, tableOf, knownPlaces, knownMessages}

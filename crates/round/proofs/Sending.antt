@@ -22,7 +22,7 @@ use Rattle.message.specs.declared.AcceptorMessage.{AcceptorMessage}
 use Rattle.message.specs.declared.Reading.the-variants.{OfAcceptor}
 use Rattle.message.proofs.RoundTrip.{acceptor-reads-back}
 use Rattle.protocol.specs.Ids.{Id}
-use Rattle.round.specs.declared.Round.{Round}
+use Rattle.round.specs.Round.{Round}
 use Rattle.round.specs.Limits.{maxHeld, noPlace}
 use Rattle.round.specs.Held.{idAt, named, isRecent, placeOf}
 use Rattle.round.specs.Handed.{placeFits}

@@ -15,7 +15,7 @@ use Rattle.message.specs.declared.Reading.the-variants.{OfProposer, OfAcceptor,
 use Rattle.protocol.specs.Ids.{Id}
 use Rattle.protocol.specs.WellFormed.{chained, formed1b}
 use Rattle.protocol.specs.Table.{Held, heldId, places, offered, nodeBy, tree, Content, plain, joint, contentOf}
-use Rattle.round.specs.declared.Round.{Round}
+use Rattle.round.specs.Round.{Round}
 use Rattle.round.specs.declared.Outcome.{Outcome}
 use Rattle.round.specs.declared.Outcome.the-variants as outcome
 use Rattle.round.specs.Held.{votes, idAt, named, tableOf, isKnown, placeOf}

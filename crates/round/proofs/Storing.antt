@@ -11,7 +11,7 @@ use Rattle.base.proofs.Tests.{or-r, dec-T, neqb→ne}
 use Rattle.protocol.specs.Ids.{Id}
 use Rattle.protocol.specs.Table.{Table, Held, at, heldId}
 use Rattle.protocol.proofs.Growth.{at-append, at-end}
-use Rattle.round.specs.declared.Round.{Round}
+use Rattle.round.specs.Round.{Round}
 use Rattle.round.specs.Held.{idAt, tableOf, isKnown, placeOf}
 use Rattle.round.specs.Rows.{placed, isKnownId}
 use Rattle.round.specs.ShutOut.{AcceptedIsKnown}

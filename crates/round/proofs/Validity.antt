@@ -22,7 +22,7 @@ use Rattle.protocol.proofs.Report.{report-law}
 use Rattle.protocol.proofs.Validity.{validity}
 use Rattle.protocol.proofs.Table.{tree-is, tree-proposal, tran-places, reach-le}
 use Rattle.protocol.proofs.Tables.{messages-out}
-use Rattle.round.specs.declared.Round.{Round}
+use Rattle.round.specs.Round.{Round}
 use Rattle.round.specs.declared.Report.the-variants.{Decided}
 use Rattle.round.specs.Held.{graphOf, tableOf, knownPlaces, knownMessages}
 use Rattle.round.specs.Report.{reported}

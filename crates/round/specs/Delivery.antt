@@ -18,8 +18,7 @@ use Rattle.message.specs.declared.Reading.{Reading}
 use Rattle.message.specs.declared.Reading.the-variants.{OfProposer, OfAcceptor, Refused}
 use Rattle.protocol.specs.Ids.{Id}
 use Rattle.protocol.specs.Table.{Held, offers, says}
-use Rattle.round.specs.declared.Round.{Round}
-use Rattle.round.specs.declared.Delivered.{Delivered}
+use Rattle.round.specs.Round.{Round}
 use Rattle.round.specs.declared.Outcome.{Outcome}
 use Rattle.round.specs.declared.Outcome.the-variants as outcome
 use Rattle.round.specs.Limits.{maxHeld, noPlace, replyLen}
@@ -124,6 +123,11 @@ pub record Result : Type 0 where
   pub outcome : Outcome
   pub round : Round
   pub reply : List ℕ
+
+-- the answer and the next round alone
+pub record Delivered : Type 0 where
+  pub outcome : Outcome
+  pub round : Round
 
 -- a refusal is its number alone: the round is as it was, and nothing is written
 abbrev pub refused : Round → Refusal → Result

@@ -23,7 +23,7 @@ use Rattle.message.specs.declared.Reading.the-variants.{OfProposer, OfAcceptor}
 use Rattle.protocol.specs.Ids.{Id}
 use Rattle.protocol.specs.Message.{Message}
 use Rattle.protocol.specs.Table.{reach}
-use Rattle.round.specs.declared.Round.{Round}
+use Rattle.round.specs.Round.{Round}
 use Rattle.round.specs.declared.Opening.the-variants.{Opened}
 use Rattle.round.specs.declared.Outcome.the-variants as outcome
 use Rattle.round.specs.declared.Report.{Report}

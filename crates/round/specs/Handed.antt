@@ -9,7 +9,7 @@ use Rattle.base.specs.Tests.{all, below}
 use Rattle.graph.specs.declared.Graph.{Graph}
 use Rattle.graph.specs.Limits.{maxAcceptors, maxLearners, maxMasks, lists}
 use Rattle.graph.specs.Held.{triangle}
-use Rattle.round.specs.declared.Round.{Round}
+use Rattle.round.specs.Round.{Round}
 use Rattle.round.specs.Limits.{maxHeld, noPlace}
 use Rattle.round.specs.Held.{votes, isProposalAt, referencesAt}
 

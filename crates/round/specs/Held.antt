@@ -13,7 +13,7 @@ use Rattle.message.specs.Layout.{idLen, proposalKind}
 use Rattle.protocol.specs.Ids.{Id, sameId}
 use Rattle.protocol.specs.Message.{Message}
 use Rattle.protocol.specs.Table.{Held, offers, says, Table, tabulate, messages}
-use Rattle.round.specs.declared.Round.{Round}
+use Rattle.round.specs.Round.{Round}
 use Rattle.round.specs.Limits.{maxHeld, noPlace, listening}
 
 module _ (r : Round) where

@@ -1,5 +1,7 @@
 -- The numbers that a round is built with
 pub mod Limits
+-- A round
+pub mod Round
 -- What a round holds: the table of its messages, the known ones, the recent ones
 pub mod Held
 -- Row 17: what is asked of a round handed in
@@ -20,5 +22,3 @@ pub mod Lists
 pub mod Demands
 -- What the contract must shut out, as propositions
 pub mod ShutOut
--- The starred cases of document 01, one table
-pub mod Cases

@@ -5,7 +5,7 @@ use lib.Dec.{eqb}
 use lib.ListN.{take}
 use Rattle.base.specs.Tests.{pick}
 use Rattle.protocol.specs.Ids.{Id}
-use Rattle.round.specs.declared.Round.{Round}
+use Rattle.round.specs.Round.{Round}
 use Rattle.round.specs.declared.Outcome.{Outcome}
 use Rattle.round.specs.declared.Outcome.the-variants.{Accepted, Replied, Refused}
 use Rattle.round.specs.declared.Report.{Report}

@@ -10,13 +10,18 @@ use Rattle.base.specs.declared.refusal.Refusal.the-variants.{Argument}
 use Rattle.graph.specs.declared.Answer.{Answer}
 use Rattle.graph.specs.declared.Answer.the-variants.{Accepted, Refused}
 use Rattle.graph.specs.declared.Graph.{Graph}
-use Rattle.graph.specs.declared.Reading.{Reading}
-use Rattle.graph.specs.Held.{readingOf, graphOfHeld, nothing}
+use Rattle.graphfile.specs.declared.Reading.{Reading}
+use Rattle.graphfile.specs.Held.{readingOf, graphOfHeld, nothing}
 use Rattle.message.specs.Layout.{idLen}
-use Rattle.round.specs.declared.Round.{Round}
-use Rattle.round.specs.declared.Opened.{Opened}
+use Rattle.round.specs.Round.{Round}
+use Rattle.round.specs.declared.Opening.{Opening}
 use Rattle.round.specs.declared.Opening.the-variants as opening
 use Rattle.round.specs.Limits.{maxHeld, noPlace, listening}
+
+-- what an opening answers, and the round that it gives; a refused opening gives a round of zeros
+pub record Opened : Type 0 where
+  pub answer : Opening
+  pub round : Round
 
 -- a round that holds no message; `last` is 255 for none, and 0 in the round of zeros that a refusal hands out
 abbrev pub emptyRound : Graph → ℕ → ℕ → ℕ → ℕ → Round

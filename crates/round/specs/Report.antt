@@ -5,7 +5,7 @@ use lib.Dec.{leb}
 use Rattle.base.specs.Tests.{pick}
 use Rattle.base.specs.declared.refusal.Refusal.the-variants.{Argument}
 use Rattle.protocol.specs.Report.{Verdict, undecided, decided, split, report}
-use Rattle.round.specs.declared.Round.{Round}
+use Rattle.round.specs.Round.{Round}
 use Rattle.round.specs.declared.Report.{Report}
 use Rattle.round.specs.declared.Report.the-variants as answer
 use Rattle.round.specs.Held.{graphOf, knownMessages}

@@ -15,7 +15,7 @@ use Rattle.protocol.specs.Ids.{Id, sameId}
 use Rattle.protocol.specs.Message.{Message}
 use Rattle.protocol.specs.WellFormed.{formed1b, formed2a, hasProposal}
 use Rattle.protocol.specs.Table.{Held, says, nodeBy, tree}
-use Rattle.round.specs.declared.Round.{Round}
+use Rattle.round.specs.Round.{Round}
 use Rattle.round.specs.Limits.{maxHeld, acceptorRoom}
 use Rattle.round.specs.Held.{graphOf, votes, isProposalAt, signerAt, tableOf, isKnown, placeOf}
 

@@ -22,7 +22,7 @@ use Rattle.protocol.specs.Message.{Message}
 use Rattle.protocol.specs.WellFormed.{formed1b, formed2a, hasProposal}
 use Rattle.protocol.specs.Report.{decides}
 use Rattle.protocol.specs.Theorems.{Peopled}
-use Rattle.round.specs.declared.Round.{Round}
+use Rattle.round.specs.Round.{Round}
 use Rattle.round.specs.declared.Outcome.the-variants as outcome
 use Rattle.round.specs.declared.Report.the-variants.{Undecided}
 use Rattle.round.specs.Limits.{acceptorRoom, replyLen}

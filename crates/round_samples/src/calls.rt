@@ -6,10 +6,15 @@ use engine::report;
 use round::Opening;
 use round::Outcome;
 use round::Report;
-use round::Round;
+use roundbytes::ROUND_LEN;
 
 // What every byte of a reply buffer is before a delivery.
 const BLANK: u8 = 9;
+
+// A round as the calls keep it.
+pub struct Round {
+    pub bytes: [u8; ROUND_LEN],
+}
 
 // What a delivery gave: 0 for a message accepted with no reply, 1,000 and the reply's length, or the number that turns it down.
 pub struct Step {
@@ -46,12 +51,11 @@ fn outcome_code(outcome: Outcome) -> u64 {
 // Delivers bytes to a round.
 pub fn given(round: Round, bytes: &[u8]) -> Step {
     let mut reply = blank();
-    let delivered = deliver(round, bytes, &mut reply);
-    let outcome = delivered.outcome;
-    let next = delivered.round;
+    let mut next = round.bytes;
+    let outcome = deliver(&mut next, bytes, &mut reply);
     Step {
         code: outcome_code(outcome),
-        round: next,
+        round: Round { bytes: next },
         reply,
     }
 }
@@ -65,8 +69,8 @@ pub fn after(round: Round, bytes: &[u8]) -> Round {
 // What a delivery gives with a reply buffer that is one byte too short, or 9,999 where a byte of it was written.
 pub fn cramped(round: Round, bytes: &[u8]) -> u64 {
     let mut reply = short();
-    let delivered = deliver(round, bytes, &mut reply);
-    let outcome = delivered.outcome;
+    let mut next = round.bytes;
+    let outcome = deliver(&mut next, bytes, &mut reply);
     if differing(&reply, b"") != 0 {
         return 9999;
     }
@@ -92,15 +96,15 @@ pub fn differing(buffer: &[u8], reply: &[u8]) -> u64 {
 
 // The round for house 1 and bay 12.
 pub fn start(file: &[u8], own: u16) -> Round {
-    let opened = open(file, 1, 12, own);
-    opened.round
+    let mut bytes = [0u8; ROUND_LEN];
+    let _answer = open(file, 1, 12, own, &mut bytes);
+    Round { bytes }
 }
 
 // 0 for a round that opens, or the number that turns it down.
 pub fn opening(file: &[u8], own: u16) -> u64 {
-    let opened = open(file, 1, 12, own);
-    let answer = opened.answer;
-    match answer {
+    let mut bytes = [0u8; ROUND_LEN];
+    match open(file, 1, 12, own, &mut bytes) {
         Opening::Opened => 0,
         Opening::Refused(r) => number(r) as u64,
     }
@@ -108,7 +112,8 @@ pub fn opening(file: &[u8], own: u16) -> u64 {
 
 // The report for a learner.
 pub fn told(round: Round, learner: u8) -> Verdict {
-    match report(round, learner) {
+    let bytes = round.bytes;
+    match report(&bytes, learner) {
         Report::Undecided => Verdict {
             code: 0,
             least: 0,

@@ -1,6 +1,7 @@
 // Runs document 01's sample rounds and its rows for rounds, and prints how many failed.
 // The bytes and the numbers expected are written out from the document, not made by the library.
 use base::put_all;
+use calls::Round;
 use calls::Step;
 use calls::after;
 use calls::cramped;
@@ -23,7 +24,11 @@ use papers::proposal;
 use papers::z1;
 use papers::z1_id;
 use papers::z2;
-use round::Round;
+use roundbytes::COUNTS_AT;
+use roundbytes::HELD_AT;
+use roundbytes::LAST_AT;
+use roundbytes::OWN_AT;
+use roundbytes::REFERENCES_AT;
 
 mod calls;
 mod papers;
@@ -367,20 +372,20 @@ fn handed(t0: Tally) -> Tally {
     let mut t = no_reply(t0, r, &proposal(4, 70), 0);
     // A count and a place outside the table.
     let mut held = r;
-    held.held = 129;
+    held.bytes[HELD_AT] = 129;
     t = unfit(t, held);
     let mut last = r;
-    last.last = 2;
+    last.bytes[LAST_AT] = 2;
     t = unfit(t, last);
     // A reference that is not to an earlier place, and an acceptor message with none.
     let mut forward = r;
-    forward.references[128] = 1;
+    forward.bytes[REFERENCES_AT + 128] = 1;
     t = unfit(t, forward);
     let mut empty = r;
-    empty.counts[1] = 0;
+    empty.bytes[COUNTS_AT + 1] = 0;
     t = unfit(t, empty);
     // An own acceptor number that the graph lacks.
     let mut own = r;
-    own.own = 1;
+    own.bytes[OWN_AT + 1] = 1;
     unfit(t, own)
 }

@@ -10,7 +10,7 @@ use lib.Seq.{length-take-le, set-at, set-append-left}
 use Rattle.base.specs.Bytes.{be, bytes, part, putAt}
 use Rattle.base.proofs.Bytes.{bytes-length, be-at, be-bytes}
 use Rattle.base.proofs.Cuts.{part-put-front, length-put, drop-behind, put-one, cut, start, into, oneInto, cut-put, cut-set, getD-part, part-part}
-use Rattle.round.specs.declared.Round.{Round}
+use Rattle.round.specs.Round.{Round}
 use Rattle.roundbytes.specs.Layout.{numbers, graphIn, roundIn, roundLen, Kept}
 use Rattle.roundbytes.proofs.Typing.{numbers-length}
 
@@ -99,6 +99,7 @@ roundOf l =
     }
 
 pub of-parts : (s : List ℕ) → roundLen ≤ length s → roundOf (parts s) ≡ roundIn s
+unfolding roundIn
 of-parts s h =
     let acceptors = getD-part 1460 s 0 0 (omega arith) in
     let learners = getD-part 1460 s 0 1 (omega arith) in

@@ -2,15 +2,17 @@
 use mathlib.Core.Path.{_≡_, refl, sym, ap, ap₂, _∙_}
 use mathlib.Core.List.{List, [], _∷_, _++_, append-assoc, append-nil}
 use Prim.Native.Nat.{ℕ, zero, suc, _+_, _-_, _*_, _/_, _%_, _^_, _≤_, _<_}
-use native.Mathlib.Nat.{add-zero, zero-add, add-comm, mul-suc}
+use native.Mathlib.Nat.{add-zero, add-comm, mul-suc}
 use native.Mathlib.Numerals.{add-one}
 use native.Mathlib.Omega.{arith}
-use lib.ListN.{length, getD, take, drop, replicate, length-append, length-replicate}
+use lib.ListN.{length, getD, take, drop, length-append}
 use lib.Seq.{split-at, take-suc, take-all, take-at, drop-at, getD-at, length-take-le}
-use Rattle.base.specs.Bytes.{be, bytes, part, putAt, Octets}
-use Rattle.base.proofs.Bytes.{bytes-length, part-length, part-suc, part-add, be-at, be-bytes, bytes-be, putAt-more, putAt-whole}
-use Rattle.round.specs.declared.Round.{Round}
-use Rattle.roundbytes.specs.Layout.{words, numbers, graphBytes, numberBytes, roundLen, roundBytes, graphIn, roundIn, Sized, Laid, RoundReadsBack, BytesWrittenBack}
+use Rattle.base.specs.Bytes.{be, bytes, part, Octets}
+use Rattle.base.proofs.Bytes.{bytes-length, part-suc, part-add, be-at, be-bytes, bytes-be}
+use Rattle.graph.specs.declared.Graph.{Graph}
+use Rattle.graph.specs.Limits.{lists, maxMasks}
+use Rattle.round.specs.Round.{Round}
+use Rattle.roundbytes.specs.Layout.{houseAt, words, numbers, graphBytes, numberBytes, roundBytes, graphIn, roundIn, Laid, RoundReadsBack, BytesWrittenBack}
 
 -- ---- numbers one behind the other
 pub words-append : (w : ℕ) (a b : List ℕ) → words w (a ++ b) ≡ words w a ++ words w b
@@ -45,55 +47,18 @@ be-four s at =
     let j : getD s (at + 2 + 1) 0 ≡ getD s (at + 3) 0 = ap (λ (k : ℕ). getD s k 0) e in
     omega arith
 
--- ---- an array of zeros that a part is copied to
-pub copied : (n : ℕ) (s : List ℕ) (at : ℕ) (m : List ℕ) → at + n ≤ length s → m ≡ putAt (replicate n 0) 0 (take (at + n - at) (drop at s)) → m ≡ part n s at
-copied n s at m h e =
-    let k : at + n - at ≡ n = omega arith in
-    e ∙ ap (λ (j : ℕ). putAt (replicate n 0) 0 (part j s at)) k ∙ putAt-whole (replicate n 0) (part n s at) (length-replicate n 0 ∙ sym (part-length n s at h))
-
 -- ---- how long the parts are
-long : (a b : List ℕ) (m n : ℕ) → length a ≡ m → length b ≡ n → length (a ++ b) ≡ m + n
+pub long : (a b : List ℕ) (m n : ℕ) → length a ≡ m → length b ≡ n → length (a ++ b) ≡ m + n
 long a b m n e f = length-append a b ∙ ap₂ _+_ e f
 
-module _ (r : Round) (h : Sized r) where
-  graph-long : length (graphBytes (r .graph)) ≡ 1454
-  graph-long =
-      let g = r .graph in
-      long ((g .acceptors ∷ g .learners ∷ []) ++ g .counts) (words 4 (g .masks)) 46 1408 (long (g .acceptors ∷ g .learners ∷ []) (g .counts) 2 44 refl (h .listCounts))
-      (words-length 4 (g .masks) ∙ ap (λ (k : ℕ). 4 * k) (h .masks))
+pub graph-long : (g : Graph) → length (g .counts) ≡ lists → length (g .masks) ≡ maxMasks * lists → length (graphBytes g) ≡ houseAt
+graph-long g n m =
+    long ((g .acceptors ∷ g .learners ∷ []) ++ g .counts) (words 4 (g .masks)) 46 1408 (long (g .acceptors ∷ g .learners ∷ []) (g .counts) 2 44 refl n)
+    (words-length 4 (g .masks) ∙ ap (λ (k : ℕ). 4 * k) m)
 
-  numbers-long : length (numberBytes (r .house) (r .bay) (r .own) (r .held) (r .last)) ≡ 8
-  unfolding bytes
-  numbers-long = refl
-
-  -- the six parts that the writer puts in, one behind the other, are the round
-  pub written : (b m₁ m₂ m₃ m₄ m₅ m₆ : List ℕ) → roundLen ≤ length b → m₁ ≡ putAt b 0 (graphBytes (r .graph))
-      → m₂ ≡ putAt m₁ 1454 (numberBytes (r .house) (r .bay) (r .own) (r .held) (r .last)) → m₃ ≡ putAt m₂ 1462 (r .ids ++ r .kinds ++ r .signers)
-      → m₄ ≡ putAt m₃ 5814 (words 8 (r .ballots)) → m₅ ≡ putAt m₄ 6838 (r .previous ++ r .counts ++ r .references) → m₆ ≡ putAt m₅ 23478 (r .known ++ r .recent)
-      → m₆ ≡ roundBytes r ++ drop (length (roundBytes r)) b
-  written b m₁ m₂ m₃ m₄ m₅ m₆ fit e₁ e₂ e₃ e₄ e₅ e₆ =
-      let g = graphBytes (r .graph) in
-      let n = numberBytes (r .house) (r .bay) (r .own) (r .held) (r .last) in
-      let i = r .ids ++ r .kinds ++ r .signers in
-      let w = words 8 (r .ballots) in
-      let p = r .previous ++ r .counts ++ r .references in
-      let k = r .known ++ r .recent in
-      let l₂ : length (g ++ n) ≡ 1462 = long g n 1454 8 graph-long numbers-long in
-      let l₃ : length (g ++ n ++ i) ≡ 5814 = long (g ++ n) i 1462 4352 l₂ (long (r .ids ++ r .kinds) (r .signers) 4224 128 (long (r .ids) (r .kinds) 4096 128 (h .ids) (h .kinds)) (h .signers)) in
-      let l₄ : length (g ++ n ++ i ++ w) ≡ 6838 = long (g ++ n ++ i) w 5814 1024 l₃ (words-length 8 (r .ballots) ∙ ap (λ (x : ℕ). 8 * x) (h .ballots)) in
-      let l₅ : length (g ++ n ++ i ++ w ++ p) ≡ 23478 =
-      long (g ++ n ++ i ++ w) p 6838 16640 l₄ (long (r .previous ++ r .counts) (r .references) 256 16384 (long (r .previous) (r .counts) 128 128 (h .previous) (h .counts)) (h .references)) in
-      let f₂ = putAt-more b m₁ m₂ g n 0 1454 (omega arith) (zero-add (length g) ∙ graph-long) e₁ e₂ in
-      let f₃ = putAt-more b m₂ m₃ (g ++ n) i 0 1462 (omega arith) (zero-add (length (g ++ n)) ∙ l₂) f₂ e₃ in
-      let f₄ = putAt-more b m₃ m₄ (g ++ n ++ i) w 0 5814 (omega arith) (zero-add (length (g ++ n ++ i)) ∙ l₃) f₃ e₄ in
-      let f₅ = putAt-more b m₄ m₅ (g ++ n ++ i ++ w) p 0 6838 (omega arith) (zero-add (length (g ++ n ++ i ++ w)) ∙ l₄) f₄ e₅ in
-      let f₆ = putAt-more b m₅ m₆ (g ++ n ++ i ++ w ++ p) k 0 23478 (omega arith) (zero-add (length (g ++ n ++ i ++ w ++ p)) ∙ l₅) f₅ e₆ in
-      f₆ ∙ ap (putAt b 0) (regroup (g ++ n) (r .ids) (r .kinds) (r .signers) w (r .previous) (r .counts) (r .references) (r .known) (r .recent))
-      ∙ ap (λ (x : ℕ). roundBytes r ++ drop x b) (zero-add (length (roundBytes r)))
-    where
-      regroup : (x a₁ a₂ a₃ w b₁ b₂ b₃ c₁ c₂ : List ℕ)
-          → x ++ (a₁ ++ a₂ ++ a₃) ++ w ++ (b₁ ++ b₂ ++ b₃) ++ (c₁ ++ c₂) ≡ x ++ a₁ ++ a₂ ++ a₃ ++ w ++ b₁ ++ b₂ ++ b₃ ++ c₁ ++ c₂
-      regroup x a₁ a₂ a₃ w b₁ b₂ b₃ c₁ c₂ = simp append-assoc
+pub numbers-long : (house bay own held last : ℕ) → length (numberBytes house bay own held last) ≡ 8
+unfolding bytes
+numbers-long house bay own held last = refl
 
 -- ---- bytes that are read are written again
 grow : (at n m : ℕ) (s p v : List ℕ) → p ≡ part n s at → v ≡ part m s (at + n) → p ++ v ≡ part (n + m) s at
@@ -113,6 +78,7 @@ words-numbers w (suc n) s at o h =
     ∙ sym (ap (λ (m : ℕ). part m s at) k ∙ part-add (w * n) w s at)
 
 pub bytes-written-back : BytesWrittenBack
+unfolding roundIn
 bytes-written-back s o h =
     let b₂ : (at : ℕ) → at + 2 ≤ length s → bytes 2 (be 2 s at) ≡ part 2 s at = λ at k. bytes-be 2 s at o k in
     let g₁ = grow 0 2 44 s (getD s 0 0 ∷ getD s 1 0 ∷ []) (part 44 s 2) (two s 0 (omega arith)) refl in
@@ -254,8 +220,11 @@ module _ (r : Round) (t : List ℕ) (h : Laid r) where
   at-numbers = at-ids ∙ append-assoc graph° (numberBytes (r .house) (r .bay) (r .own) (r .held) (r .last)) °ids
 
   -- how long what stands in front is
+  long-graph : length graph° ≡ 1454
+  long-graph = graph-long (r .graph) (h .sized .listCounts) (h .sized .masks)
+
   long-numbers : length numbers° ≡ 1462
-  long-numbers = long graph° (numberBytes (r .house) (r .bay) (r .own) (r .held) (r .last)) 1454 8 (graph-long r (h .sized)) (numbers-long r (h .sized))
+  long-numbers = long graph° (numberBytes (r .house) (r .bay) (r .own) (r .held) (r .last)) 1454 8 long-graph (numbers-long (r .house) (r .bay) (r .own) (r .held) (r .last))
 
   long-ids : length ids° ≡ 5558
   long-ids = long numbers° (r .ids) 1462 4096 long-numbers (h .sized .ids)
@@ -309,7 +278,7 @@ module _ (r : Round) (t : List ℕ) (h : Laid r) where
   at-house = at-bay ∙ append-assoc graph° (bytes 2 (r .house)) (bytes 2 (r .bay) ++ (bytes 2 (r .own) ++ r .held ∷ r .last ∷ °ids))
 
   long-bay : length (graph° ++ bytes 2 (r .house)) ≡ 1456
-  long-bay = long graph° (bytes 2 (r .house)) 1454 2 (graph-long r (h .sized)) (bytes-length 2 (r .house))
+  long-bay = long graph° (bytes 2 (r .house)) 1454 2 long-graph (bytes-length 2 (r .house))
 
   long-own : length (graph° ++ bytes 2 (r .house) ++ bytes 2 (r .bay)) ≡ 1458
   long-own = long (graph° ++ bytes 2 (r .house)) (bytes 2 (r .bay)) 1456 2 long-bay (bytes-length 2 (r .bay))
@@ -343,8 +312,9 @@ module _ (r : Round) (t : List ℕ) (h : Laid r) where
   ballots-back = ap (λ (x : List ℕ). numbers 8 128 x 5814) at-ballots ∙ numbers-words 8 (r .ballots) signers° °previous 5814 128 long-signers (h .sized .ballots) (h .ballotFits)
 
   back : roundIn all ≡ r
+  unfolding roundIn
   back =
-      let house = read-number 1454 (r .house) graph° (bytes 2 (r .bay) ++ (bytes 2 (r .own) ++ r .held ∷ r .last ∷ °ids)) at-house (graph-long r (h .sized)) (h .houseFits) in
+      let house = read-number 1454 (r .house) graph° (bytes 2 (r .bay) ++ (bytes 2 (r .own) ++ r .held ∷ r .last ∷ °ids)) at-house long-graph (h .houseFits) in
       let bay = read-number 1456 (r .bay) (graph° ++ bytes 2 (r .house)) (bytes 2 (r .own) ++ r .held ∷ r .last ∷ °ids) at-bay long-bay (h .bayFits) in
       let own = read-number 1458 (r .own) (graph° ++ bytes 2 (r .house) ++ bytes 2 (r .bay)) (r .held ∷ r .last ∷ °ids) at-own long-own (h .ownFits) in
       let held = read-byte 1460 (r .held) (graph° ++ bytes 2 (r .house) ++ bytes 2 (r .bay) ++ bytes 2 (r .own)) (r .last ∷ °ids) at-held long-held in

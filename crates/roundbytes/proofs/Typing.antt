@@ -25,6 +25,7 @@ numbers-length w zero s at = omega arith
 numbers-length w (suc n) s at = length-append (numbers w n s at) (be w s (at + w * n) ∷ []) ∙ omega (arith, numbers-length w n s at)
 
 pub read-typed : (b : List ℕ) → Octets b → roundLen ≤ length b → Typed (roundIn b)
+unfolding roundIn
 read-typed b o h =
     record {
       houseFits = be-two b 1454 o;

@@ -8,7 +8,7 @@ use Rattle.base.specs.Bytes.{be, bytes, part, Octets}
 use Rattle.graph.specs.declared.Graph.{Graph}
 use Rattle.graph.specs.Limits.{lists, maxMasks}
 use Rattle.message.specs.Layout.{idLen}
-use Rattle.round.specs.declared.Round.{Round}
+use Rattle.round.specs.Round.{Round}
 use Rattle.round.specs.Limits.{maxHeld}
 
 -- ---- where each field stands. The two bytes in front are the graph's acceptors and learners.
@@ -94,7 +94,8 @@ roundBytes r =
 abbrev pub graphIn : List ℕ → Graph
 graphIn b = record { acceptors = getD b 0 0; learners = getD b 1 0; counts = part lists b listCountsAt; masks = numbers 4 (maxMasks * lists) b masksAt }
 
-abbrev pub roundIn : List ℕ → Round
+-- shut, so that what is said of a round in bytes stays short; proofs/Fields says of each field where it stands
+unfoldable pub roundIn : List ℕ → Round
 roundIn b =
     record {
       graph = graphIn b;

@@ -1,4 +1,2 @@
--- Sets of places as two words
-pub mod PlaceSets
--- What is worked out over arrays: the tests that the loops ask of each place
+-- What is asked of each place, and the names of the places
 pub mod Arrays

@@ -1,18 +1,18 @@
 // What lies beneath a message, from what lies beneath the places that it refers to.
-use crate::Places;
 use crate::Under;
-use crate::sets::first_in;
-use crate::sets::has_place;
-use crate::sets::larger;
-use crate::sets::without_first;
 use base::size;
+use places::Places;
+use places::sets::first_in;
+use places::sets::has_place;
+use places::sets::larger;
+use places::sets::without_first;
 ghost use mathlib.Core.Path.{_≡_};
 ghost use mathlib.Core.Bool.{_&&_};
 ghost use Prim.Native.Nat.{ℕ, _≤_, _<_};
 ghost use lib.ListN.{length, getD};
 ghost use Rattle.base.specs.Tests.{any, below};
-ghost use Rattle.scan.specs.PlaceSets.{inSet};
-ghost use Rattle.scan.specs.Arrays.{Whole, Covers, Beneath, isOffer, isCrowding};
+ghost use Rattle.places.specs.PlaceSets.{inSet, Whole, Covers};
+ghost use Rattle.scan.specs.Arrays.{Beneath, isOffer, isCrowding};
 
 pub fn under<'a>(
     low: &'a [u64],
@@ -101,21 +101,6 @@ pub fn is_crowded<'a>(
         found = is_crowding(kinds, names, tops, low, high, name, ballot, j) | found;
         rest = without_first(rest.low, rest.high);
         j = first_in(rest.low, rest.high, n);
-    }
-    found
-}
-
-// Whether one of these places holds a proposal.
-pub fn is_offered<'a>(kinds: &'a [u8], places: &'a [u8]) -> bool
-    requires { ⌜ Whole (now kinds) × ((i : ℕ) → getD (now places) i 0 < 128) ⌝ }
-    ensures { λ r. ⌜ r ≡ any (isOffer (now (kinds .entry))) (now (places .entry)) ⌝ }
-{
-    let mut found = false;
-    let mut i: usize = 0;
-    while i < places.len() {
-        let k = size(places[i]);
-        found = (kinds[k] == 1) | found;
-        i += 1;
     }
     found
 }

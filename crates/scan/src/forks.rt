@@ -1,12 +1,12 @@
 // Forks: two acceptor messages of one signer with the same previous message or both with none; and the acceptors caught by them.
-use crate::Places;
-use crate::sets::first_in;
-use crate::sets::has_place;
-use crate::sets::meet;
-use crate::sets::with_acceptor;
-use crate::sets::with_place;
-use crate::sets::without_first;
 use base::size;
+use places::Places;
+use places::sets::first_in;
+use places::sets::has_place;
+use places::sets::meet;
+use places::sets::with_acceptor;
+use places::sets::with_place;
+use places::sets::without_first;
 ghost use mathlib.Core.Path.{_≡_};
 ghost use mathlib.Core.Bool.{_&&_};
 ghost use Prim.Native.Nat.{ℕ, _≤_, _<_};
@@ -14,8 +14,8 @@ ghost use lib.Dec.{eqb};
 ghost use lib.ListN.{length, getD};
 ghost use Rattle.base.specs.Tests.{any, below};
 ghost use Rattle.base.specs.Sets.{has};
-ghost use Rattle.scan.specs.PlaceSets.{inSet};
-ghost use Rattle.scan.specs.Arrays.{Whole, Covers, isFork, isCaught};
+ghost use Rattle.places.specs.PlaceSets.{inSet, Whole, Covers};
+ghost use Rattle.scan.specs.Arrays.{isFork, isCaught};
 
 // Whether the message at place j forks with one of this signer, name and link.
 fn is_fork<'a>(

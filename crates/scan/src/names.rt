@@ -2,11 +2,11 @@
 // two messages are the same exactly if their names are. A previous message is compared by its name too; 255 is the name of none.
 // Ids are found by a key, so that few places are compared.
 use crate::ID_KEYS;
-use crate::Places;
-use crate::sets::first_in;
-use crate::sets::put_place;
-use crate::sets::without_first;
 use base::size;
+use places::Places;
+use places::sets::first_in;
+use places::sets::put_place;
+use places::sets::without_first;
 ghost use mathlib.Core.Path.{_≡_};
 ghost use Prim.Native.Nat.{_+_, _*_, _≤_, _<_};
 ghost use lib.ListN.{length, set};

@@ -8,6 +8,9 @@ use Rattle.demonstration.proofs.handed.Tie as tie
 len-of-requires : tie.Need-len-of-requires
 len-of-requires c κs = search needs
 
+slice-aggregate-deliver : tie.Need-slice-aggregate-deliver
+slice-aggregate-deliver c = search needs
+
 sub-deliver : tie.Need-sub-deliver
 sub-deliver c = search needs
 
@@ -15,7 +18,7 @@ part-deliver-start : tie.Need-part-deliver-start
 part-deliver-start c = search needs
 
 part-deliver-end : tie.Need-part-deliver-end
-part-deliver-end c = let e : length (c .before .before .before .before .args .l .bytes) ≡ 256 = search needs in omega (arith, c .before .before .len-of .ensures)
+part-deliver-end c = let e : length (c .before .before .before .before .before .before .args .l .bytes) ≡ 256 = search needs in omega (arith, c .before .before .before .before .len-of .ensures)
 
 deliver-requires : tie.Need-deliver-requires
 deliver-requires c κs = search needs
@@ -31,6 +34,7 @@ handed-spec =
     tie.close
     (tie.spec
     len-of-requires
+    slice-aggregate-deliver
     sub-deliver
     part-deliver-start
     part-deliver-end

@@ -12,7 +12,7 @@ use Rattle.round.specs.Handed.{fits}
 use Rattle.round.specs.Rows.{previousId, referenceIds}
 use Rattle.round.specs.Delivery.{proposalTaken, acceptorTaken}
 use Rattle.roundbytes.specs.Layout.{roundIn}
-use Rattle.engine.specs.Giving.{Gives, left}
+use Rattle.answering.specs.Giving.{Gives, left}
 use Rattle.engine.proofs.Delivering.{misfit, short, let-in, unread, told}
 use borrow.Author.Needs.{needs}
 use Rattle.engine.proofs.deliver_in.Statement.{statement}

@@ -1,9 +1,14 @@
-use mathlib.Core.Path.{ap, sym, _∙_}
-use Rattle.graph.specs.declared.Reading.{Reading}
-use Rattle.round.specs.Opening.{openedWith, opened}
+use lib.ListN.{length}
+use borrow.Author.Tests.{lt-ltb}
+use Rattle.engine.specs.Calls.{openAnswer, openTo}
+use Rattle.engine.proofs.Opening.{opens, opens-not}
 use borrow.Author.Needs.{needs}
 use Rattle.engine.proofs.open.Statement.{statement}
 use Rattle.engine.proofs.open.Tie as tie
+
+returns : tie.Need-returns
+unfolding openAnswer openTo
+returns c = let short = lt-ltb (length (c .before .before .before .args .s .now)) 23734 (c .if1 .taken) in (simp short, simp short)
 
 read-requires : tie.Need-read-requires
 read-requires c κs = search needs
@@ -11,39 +16,37 @@ read-requires c κs = search needs
 enum-told : tie.Need-enum-told
 enum-told c = search needs
 
-opened-with-requires : tie.Need-opened-with-requires
-opened-with-requires c κs = search needs
+start-requires : tie.Need-start-requires
+start-requires c κs = search needs
 
 enum-known-answer : tie.Need-enum-known-answer
 enum-known-answer c = search needs
 
-refused-opening-requires : tie.Need-refused-opening-requires
-refused-opening-requires c κs = search needs
-
-returns : tie.Need-returns
-unfolding opened
-returns c =
-    let a = c .before .before .before .before .before .before .args in
-    let r = c .before .before .before .before .read .result in
-    c .opened-with .ensures
-    ∙ sym (ap (λ (x : Reading). openedWith x (a .house) (a .bay) (a .own) (x .answer)) (sym (c .before .before .before .before .read .ensures)) ∙ ap (openedWith r (a .house) (a .bay) (a .own)) (c .before .enum-told .given .1))
+same-length : tie.Need-same-length
+same-length c = search needs
 
 returns-2 : tie.Need-returns-2
-unfolding opened
 returns-2 c =
-    let a = c .before .before .before .before .before .before .before .args in
-    let r = c .before .before .before .before .before .read .result in
-    c .refused-opening .ensures
-    ∙ sym (ap (λ (x : Reading). openedWith x (a .house) (a .bay) (a .own) (x .answer)) (sym (c .before .before .before .before .before .read .ensures)) ∙ ap (openedWith r (a .house) (a .bay) (a .own)) (c .before .before .answer .given .1))
+    let a = c .before .before .before .before .before .before .before .before .before .before .before .args in
+    let f = c .before .before .before .before .before .before .before .read in
+    let x = c .before .before .start in
+    opens (a .file .now) (a .house) (a .bay) (a .own) (a .s .now) (c .before .before .before .before .before .before .before .before .if1 .left) (f .result) (f .ensures) (c .before .before .before .before .enum-told .given .1) (x .result) (x .last .1 .1 .1 .1 .0) (x .ensures .0) (x .ensures .1)
+
+returns-3 : tie.Need-returns-3
+returns-3 c =
+    let a = c .before .before .before .before .before .before .before .before .args in
+    let f = c .before .before .before .before .read in
+    opens-not (a .file .now) (a .house) (a .bay) (a .own) (a .s .now) (c .before .before .before .before .before .if1 .left) (f .result) (f .ensures) (c .before .answer .given .0 .0) (c .before .answer .given .1)
 
 pub open-spec : {M : Type 1} → statement M
 open-spec =
     tie.close
     (tie.spec
+    returns
     read-requires
     enum-told
-    opened-with-requires
+    start-requires
     enum-known-answer
-    refused-opening-requires
-    returns
-    returns-2)
+    same-length
+    returns-2
+    returns-3)

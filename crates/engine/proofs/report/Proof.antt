@@ -1,31 +1,21 @@
-use mathlib.Core.Path.{ap, _∙_}
-use Rattle.round.specs.declared.Round.{Round}
-use Rattle.round.specs.Report.{reported}
+use mathlib.Core.Path.{sym, _∙_}
+use lib.ListN.{length}
+use borrow.Author.Tests.{lt-ltb, le-ltb}
+use Rattle.engine.specs.Calls.{reportAnswer}
 use borrow.Author.Needs.{needs}
 use Rattle.engine.proofs.report.Statement.{statement}
 use Rattle.engine.proofs.report.Tie as tie
 
-slice-aggregate-put-round : tie.Need-slice-aggregate-put-round
-slice-aggregate-put-round c = search needs
-
-put-round-requires : tie.Need-put-round-requires
-put-round-requires c κs = search needs
-
-slice-aggregate-report-in : tie.Need-slice-aggregate-report-in
-slice-aggregate-report-in c = search needs
+returns : tie.Need-returns
+unfolding reportAnswer
+returns c = let short = lt-ltb (length (c .before .before .args .s .now)) 23734 (c .if1 .taken) in simp short
 
 report-in-requires : tie.Need-report-in-requires
 report-in-requires c κs = search needs
 
-returns : tie.Need-returns
-returns c = c .report-in .ensures ∙ ap (λ (r : Round). reported r (c .before .before .before .before .before .args .learner)) (c .before .before .before .put-round .ensures)
+returns-2 : tie.Need-returns-2
+unfolding reportAnswer
+returns-2 c = let whole = le-ltb (length (c .before .before .before .args .s .now)) 23734 (c .before .if1 .left) in c .report-in .ensures ∙ sym (simp whole)
 
 pub report-spec : {M : Type 1} → statement M
-report-spec =
-    tie.close
-    (tie.spec
-    slice-aggregate-put-round
-    put-round-requires
-    slice-aggregate-report-in
-    report-in-requires
-    returns)
+report-spec = tie.close (tie.spec returns report-in-requires returns-2)

@@ -4,7 +4,7 @@ use Prim.Native.Nat.{ℕ, _<_}
 use lib.Dec.{T}
 use borrow.Author.Tests.{not-true, not-false}
 use Rattle.protocol.specs.Report as paper
-use Rattle.derive.specs.Deciding.{shown}
+use Rattle.deciding.specs.Deciding.{shown}
 use Rattle.round.specs.Held.{graphOf, knownMessages}
 use Rattle.round.specs.Handed.{fits}
 use Rattle.roundbytes.specs.Layout.{roundIn}
@@ -24,6 +24,7 @@ shared-slice-read-if2 : tie.Need-shared-slice-read-if2
 shared-slice-read-if2 c = search needs
 
 returns-2 : tie.Need-returns-2
+unfolding roundIn
 returns-2 c = let a = c .before .before .before .before .before .args in refused-learner (roundIn (a .s .now)) (a .learner) (sym (c .before .before .before .fits2 .ensures) ∙ not-false _ (c .before .before .if1 .left)) (c .if2 .taken)
 
 masks-in-requires : tie.Need-masks-in-requires
@@ -36,6 +37,7 @@ size-requires : tie.Need-size-requires
 size-requires c κs = search needs
 
 verdict-for-requires : tie.Need-verdict-for-requires
+unfolding roundIn
 verdict-for-requires c κs =
     let a = c .before .before .before .before .before .before .before .before .args in
     let p = c .before .before .before .before .before .before .before .before .pre in
@@ -48,6 +50,7 @@ answer-to-requires : tie.Need-answer-to-requires
 answer-to-requires c κs = search needs
 
 returns-3 : tie.Need-returns-3
+unfolding roundIn
 returns-3 c =
     let a = c .before .before .before .before .before .before .before .before .before .before .args in
     let s = a .s .now in

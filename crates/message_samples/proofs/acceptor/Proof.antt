@@ -11,23 +11,11 @@ Inv-loop marker at count n m₀ k₀ m k = (k ≤ n) × (length m ≡ 4300)
 abbrev μ-loop : tie.MeasureT-loop
 μ-loop marker at count n m₀ k₀ m k = n - k
 
-array-write-m : tie.Need-array-write-m Inv-loop μ-loop
-array-write-m c = search needs
+blank-requires : tie.Need-blank-requires Inv-loop μ-loop
+blank-requires c κs = search needs
 
-array-write-m-2 : tie.Need-array-write-m-2 Inv-loop μ-loop
-array-write-m-2 c = search needs
-
-array-write-m-3 : tie.Need-array-write-m-3 Inv-loop μ-loop
-array-write-m-3 c = search needs
-
-array-write-m-4 : tie.Need-array-write-m-4 Inv-loop μ-loop
-array-write-m-4 c = search needs
-
-array-write-m-5 : tie.Need-array-write-m-5 Inv-loop μ-loop
-array-write-m-5 c = search needs
-
-array-write-m-6 : tie.Need-array-write-m-6 Inv-loop μ-loop
-array-write-m-6 c = search needs
+fronted-requires : tie.Need-fronted-requires Inv-loop μ-loop
+fronted-requires c κs = search needs
 
 loop-holds : tie.Need-loop-holds Inv-loop μ-loop
 loop-holds c = search needs
@@ -47,8 +35,8 @@ mul-m c = search needs
 add-m-3 : tie.Need-add-m-3 Inv-loop μ-loop
 add-m-3 c = search needs
 
-array-write-m-7 : tie.Need-array-write-m-7 Inv-loop μ-loop
-array-write-m-7 c = search needs
+array-write-m : tie.Need-array-write-m Inv-loop μ-loop
+array-write-m c = search needs
 
 add-k : tie.Need-add-k Inv-loop μ-loop
 add-k c = search needs
@@ -68,19 +56,15 @@ acceptor-spec =
     (tie.spec
     Inv-loop
     μ-loop
-    array-write-m
-    array-write-m-2
-    array-write-m-3
-    array-write-m-4
-    array-write-m-5
-    array-write-m-6
+    blank-requires
+    fronted-requires
     loop-holds
     add-m
     cast-m
     add-m-2
     mul-m
     add-m-3
-    array-write-m-7
+    array-write-m
     add-k
     loop-less
     loop-again

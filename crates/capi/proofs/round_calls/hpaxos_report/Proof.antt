@@ -12,20 +12,11 @@ number-requires c κs = search needs
 
 returns : tie.Need-returns
 returns c =
-    let short = lt-ltb (length (c .before .before .before .before .args .round .now)) 23734 (c .before .if1 .taken) in
+    let short = lt-ltb (length (c .before .before .before .before .args .out .now)) 17 (c .before .if1 .taken) in
     (c .number .ensures ∙ simp short, simp short)
 
-number-requires-2 : tie.Need-number-requires-2
-number-requires-2 c κs = search needs
-
-returns-2 : tie.Need-returns-2
-returns-2 c =
-    let whole = le-ltb (length (c .before .before .before .before .before .args .round .now)) 23734 (c .before .before .if1 .left) in
-    let short = lt-ltb (length (c .before .before .before .before .before .args .out .now)) 17 (c .before .if2 .taken) in
-    (c .number2 .ensures ∙ simp (whole, short), simp (whole, short))
-
-report-in-requires : tie.Need-report-in-requires
-report-in-requires c κs = search needs
+report-requires : tie.Need-report-requires
+report-requires c κs = search needs
 
 enum-told : tie.Need-enum-told
 enum-told c = search needs
@@ -48,49 +39,45 @@ put-report-requires-3 c κs = search needs
 enum-known-e : tie.Need-enum-known-e
 enum-known-e c = search needs
 
-number-requires-3 : tie.Need-number-requires-3
-number-requires-3 c κs = search needs
+number-requires-2 : tie.Need-number-requires-2
+number-requires-2 c κs = search needs
 
-returns-3 : tie.Need-returns-3
-returns-3 c =
-    let a = c .before .before .before .before .before .before .before .before .before .args in
-    let whole = le-ltb (length (a .round .now)) 23734 (c .before .before .before .before .before .before .if1 .left) in
-    let room = le-ltb (length (a .out .now)) 17 (c .before .before .before .before .before .if2 .left) in
-    let told = sym (c .before .before .e .given .1) ∙ c .before .before .before .before .report-in .ensures in
-    (c .number3 .ensures ∙ ap reportNumber told ∙ sym (simp (whole, room)), ap (λ (x : Report). reportedTo x (a .out .now)) told ∙ sym (simp (whole, room)))
+returns-2 : tie.Need-returns-2
+returns-2 c =
+    let a = c .before .before .before .before .before .before .before .before .args in
+    let room = le-ltb (length (a .out .now)) 17 (c .before .before .before .before .before .if1 .left) in
+    let told = sym (c .before .before .e .given .1) ∙ c .before .before .before .before .report .ensures in
+    (c .number2 .ensures ∙ ap reportNumber told ∙ sym (simp room), ap (λ (x : Report). reportedTo x (a .out .now)) told ∙ sym (simp room))
 
 same-length : tie.Need-same-length
 same-length c = search needs
 
-returns-4 : tie.Need-returns-4
-returns-4 c =
-    let a = c .before .before .before .before .before .before .before .before .before .before .before .args in
-    let whole = le-ltb (length (a .round .now)) 23734 (c .before .before .before .before .before .before .before .before .if1 .left) in
-    let room = le-ltb (length (a .out .now)) 17 (c .before .before .before .before .before .before .before .if2 .left) in
-    let told = sym (c .before .before .before .before .enum-told .given .1) ∙ c .before .before .before .before .before .before .report-in .ensures in
-    (ap reportNumber told ∙ sym (simp (whole, room)), c .before .before .put-report .ensures ∙ ap (λ (x : Report). reportedTo x (a .out .now)) told ∙ sym (simp (whole, room)))
+returns-3 : tie.Need-returns-3
+returns-3 c =
+    let a = c .before .before .before .before .before .before .before .before .before .before .args in
+    let room = le-ltb (length (a .out .now)) 17 (c .before .before .before .before .before .before .before .if1 .left) in
+    let told = sym (c .before .before .before .before .enum-told .given .1) ∙ c .before .before .before .before .before .before .report .ensures in
+    (ap reportNumber told ∙ sym (simp room), c .before .before .put-report .ensures ∙ ap (λ (x : Report). reportedTo x (a .out .now)) told ∙ sym (simp room))
 
 same-length-2 : tie.Need-same-length-2
 same-length-2 c = search needs
 
-returns-5 : tie.Need-returns-5
-returns-5 c =
-    let a = c .before .before .before .before .before .before .before .before .before .before .before .before .args in
-    let whole = le-ltb (length (a .round .now)) 23734 (c .before .before .before .before .before .before .before .before .before .if1 .left) in
-    let room = le-ltb (length (a .out .now)) 17 (c .before .before .before .before .before .before .before .before .if2 .left) in
-    let told = sym (c .before .before .before .before .before .x .given .1) ∙ c .before .before .before .before .before .before .before .report-in .ensures in
-    (ap reportNumber told ∙ sym (simp (whole, room)), c .before .before .put-report2 .ensures ∙ ap (λ (x : Report). reportedTo x (a .out .now)) told ∙ sym (simp (whole, room)))
+returns-4 : tie.Need-returns-4
+returns-4 c =
+    let a = c .before .before .before .before .before .before .before .before .before .before .before .args in
+    let room = le-ltb (length (a .out .now)) 17 (c .before .before .before .before .before .before .before .before .if1 .left) in
+    let told = sym (c .before .before .before .before .before .x .given .1) ∙ c .before .before .before .before .before .before .before .report .ensures in
+    (ap reportNumber told ∙ sym (simp room), c .before .before .put-report2 .ensures ∙ ap (λ (x : Report). reportedTo x (a .out .now)) told ∙ sym (simp room))
 
 same-length-3 : tie.Need-same-length-3
 same-length-3 c = search needs
 
-returns-6 : tie.Need-returns-6
-returns-6 c =
-    let a = c .before .before .before .before .before .before .before .before .before .before .before .before .args in
-    let whole = le-ltb (length (a .round .now)) 23734 (c .before .before .before .before .before .before .before .before .before .if1 .left) in
-    let room = le-ltb (length (a .out .now)) 17 (c .before .before .before .before .before .before .before .before .if2 .left) in
-    let told = sym (c .before .before .before .before .before .x2 .given .1) ∙ c .before .before .before .before .before .before .before .report-in .ensures in
-    (ap reportNumber told ∙ sym (simp (whole, room)), c .before .before .put-report3 .ensures ∙ ap (λ (x : Report). reportedTo x (a .out .now)) told ∙ sym (simp (whole, room)))
+returns-5 : tie.Need-returns-5
+returns-5 c =
+    let a = c .before .before .before .before .before .before .before .before .before .before .before .args in
+    let room = le-ltb (length (a .out .now)) 17 (c .before .before .before .before .before .before .before .before .if1 .left) in
+    let told = sym (c .before .before .before .before .before .x2 .given .1) ∙ c .before .before .before .before .before .before .before .report .ensures in
+    (ap reportNumber told ∙ sym (simp room), c .before .before .put-report3 .ensures ∙ ap (λ (x : Report). reportedTo x (a .out .now)) told ∙ sym (simp room))
 
 pub hpaxos-report-spec : {M : Type 1} → statement M
 hpaxos-report-spec =
@@ -98,9 +85,7 @@ hpaxos-report-spec =
     (tie.spec
     number-requires
     returns
-    number-requires-2
-    returns-2
-    report-in-requires
+    report-requires
     enum-told
     put-report-requires
     enum-known-x
@@ -108,11 +93,11 @@ hpaxos-report-spec =
     enum-known-x-2
     put-report-requires-3
     enum-known-e
-    number-requires-3
-    returns-3
+    number-requires-2
+    returns-2
     same-length
-    returns-4
+    returns-3
     same-length-2
-    returns-5
+    returns-4
     same-length-3
-    returns-6)
+    returns-5)

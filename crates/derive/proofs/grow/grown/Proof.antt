@@ -1,6 +1,6 @@
 use Rattle.derive.proofs.grow.grown.Statement.{statement}
 use Rattle.derive.proofs.grow.grown.Tie as tie
-use mathlib.Core.Path.{_≡_, sym, ap, subst, transport, _∙_}
+use mathlib.Core.Path.{_≡_, sym, subst, transport}
 use mathlib.Core.List.{List}
 use Prim.Native.Nat.{ℕ, _+_, _<_}
 use native.Mathlib.Numerals.{add-one}
@@ -11,11 +11,12 @@ use Rattle.base.proofs.Cuts.{part-part}
 use Rattle.graph.specs.Held.{heldGraph}
 use Rattle.scan.specs.Arrays.{Named, idKeys, IdsIndexed}
 use Rattle.scan.proofs.Naming.{named-more}
-use Rattle.derive.specs.Records.{tableIn, Fit}
-use Rattle.derive.specs.Lent.{Notes, Lent, notesIn, KnownIn, MarksIn, withNames}
+use Rattle.notes.specs.Records.{Fit}
+use Rattle.notes.specs.Lent.{Lent, notesIn, MarksIn, withNames}
 use Rattle.derive.specs.Complete.{Complete}
 use Rattle.derive.proofs.Keeping.{marks-named}
-use Rattle.derive.proofs.Lending.{names-lent, names-back, rooms-in}
+use Rattle.notes.proofs.Lending.{names-lent, names-back, rooms-in}
+use Rattle.derive.proofs.Extending.{all-complete}
 use borrow.Author.Needs.{needs}
 use native.Mathlib.Omega.{arith}
 
@@ -75,8 +76,28 @@ extended-requires c κs =
     let before = pre .1 .1 .1 .0 in
     let lens = pre .1 .1 .1 .1 .1 .0 in
     let l = names-lent w b ns ks lent kn kk in
-    let marks = marks-named (a .n) (a .kinds .now) (a .signers .now) (x .names) (a .previous .now) (x .forklow) (x .forkhigh) (x .tops) (x .forms) (x .keylow) (x .keyhigh) (x .forkedlow) (x .forkedhigh) (named .result) (before .held) (before .named) (pre .1 .1 .1 .1 .1 .1 .1 .1 .1) in
-    (pre .0, (pre .1 .0, (pre .1 .1 .0, (subst (λ (m : ℕ). Fit m (a .kinds .now) (a .previous .now) (a .counts .now) (a .references .now)) (sym (add-one (a .n))) (pre .1 .1 .1 .1 .0), (lens .kindsFit, (lens .signersFit, (lens .ballotsFit, (lens .previousFit, (lens .countsFit, (lens .referencesFit, (omega arith, (l, subst (MarksIn (a .n) (a .kinds .now) (a .signers .now) (a .previous .now)) (sym e) (subst (λ (y : List ℕ). MarksIn (a .n) (a .kinds .now) (a .signers .now) (a .previous .now) (withNames x y (part 32 ks 0) (part 32 ks 32))) (sym (named .ensures .0)) marks)))))))))))))
+    let marks = marks-named (a .n) (a .kinds .now) (a .signers .now) (x .names) (a .previous .now) (x .forklow) (x .forkhigh) (x .tops) (x .forms) (x .keylow) (x .keyhigh) (x .forkedlow) (x .forkedhigh) (named .result) (before .held) (before .named) (pre .1 .1 .1 .1 .1 .1 .1 .1 .1) in (
+      omega arith,
+      (
+        record {
+          acceptorsFit = pre .0;
+          learnersFit = pre .1 .0;
+          sized = pre .1 .1 .0;
+          fit = subst (λ (m : ℕ). Fit m (a .kinds .now) (a .previous .now) (a .counts .now) (a .references .now)) (sym (add-one (a .n))) (pre .1 .1 .1 .1 .0);
+          kindsFit = lens .kindsFit;
+          signersFit = lens .signersFit;
+          ballotsFit = lens .ballotsFit;
+          previousFit = lens .previousFit;
+          countsFit = lens .countsFit;
+          referencesFit = lens .referencesFit;
+        },
+        (
+          l,
+          subst (MarksIn (a .n) (a .kinds .now) (a .signers .now) (a .previous .now)) (sym e)
+              (subst (λ (y : List ℕ). MarksIn (a .n) (a .kinds .now) (a .signers .now) (a .previous .now) (withNames x y (part 32 ks 0) (part 32 ks 32))) (sym (named .ensures .0)) marks),
+        ),
+      ),
+    )
 
 same-length : tie.Need-same-length
 same-length c = search needs
@@ -103,18 +124,8 @@ returns c =
     let here : Named (a .ids .now) (a .n + 1) ns =
     subst (λ (y : List ℕ). Named (a .ids .now) (a .n + 1) y) (sym (named .ensures .0)) (named-more (a .ids .now) (a .n) (x .names) (named .result) few (rooms-in w b lent .names) (comp .0 .0) (named .ensures .1 .0)) in
     let more = c .before .before .before .before .extended in
-    let same = more .ensures .0 in
-    let names = same .0 ∙ ap (λ (z : Notes). z .names) e in
-    let low = same .1 .0 ∙ ap (λ (z : Notes). z .idlow) e in
-    let high = same .1 .1 ∙ ap (λ (z : Notes). z .idhigh) e in
-    subst (λ (m : ℕ). Complete (heldGraph (a .acceptors) (a .l) (a .lists .now) (a .masks .now)) (a .ids .now) (a .kinds .now) (a .signers .now) (a .ballots .now) (a .previous .now) (a .counts .now) (a .references .now) m (notesIn (more .last .0) (more .last .1 .0))) (add-one (a .n)) (
-      (
-        subst (λ (y : List ℕ). Named (a .ids .now) (a .n + 1) y) (sym names) here,
-        more .ensures .1 .1 (a .ids .now) (subst (λ (z : Notes). Named (a .ids .now) (a .n + 1) (z .names)) (sym e) here)
-            (subst (KnownIn (heldGraph (a .acceptors) (a .l) (a .lists .now) (a .masks .now)) (tableIn (a .ids .now) (a .kinds .now) (a .signers .now) (a .ballots .now) (a .previous .now) (a .counts .now) (a .references .now) (a .n)) (a .kinds .now) (a .signers .now)) (sym e) (comp .0 .1)),
-      ),
-      (transport (λ i. IdsIndexed (a .ids .now) (a .n + 1) (sym low i) (sym high i)) (named .ensures .1 .1), more .ensures .1 .0),
-    )
+    subst (λ (m : ℕ). Complete (heldGraph (a .acceptors) (a .l) (a .lists .now) (a .masks .now)) (a .ids .now) (a .kinds .now) (a .signers .now) (a .ballots .now) (a .previous .now) (a .counts .now) (a .references .now) m (notesIn (more .last .0) (more .last .1 .0))) (add-one (a .n))
+    (all-complete (heldGraph (a .acceptors) (a .l) (a .lists .now) (a .masks .now)) (a .ids .now) (a .kinds .now) (a .signers .now) (a .ballots .now) (a .previous .now) (a .counts .now) (a .references .now) (a .n + 1) (a .n) x _ (notesIn (more .last .0) (more .last .1 .0)) ns (part 32 ks 0) (part 32 ks 32) e (more .ensures) here (named .ensures .1 .1) (comp .0 .1))
 
 pub grown-spec : {M : Type 1} → statement M
 grown-spec =

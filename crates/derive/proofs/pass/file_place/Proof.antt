@@ -3,7 +3,7 @@ use Rattle.derive.proofs.pass.file_place.Tie as tie
 use mathlib.Core.Path.{_≡_}
 use lib.ListN.{length, length-set}
 use Rattle.base.specs.Bytes.{part}
-use Rattle.derive.proofs.Lending.{filed, back-long}
+use Rattle.notes.proofs.Lending.{filed, back-long}
 use borrow.Author.Needs.{needs}
 use native.Mathlib.Omega.{arith}
 

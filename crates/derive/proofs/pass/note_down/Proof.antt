@@ -1,7 +1,7 @@
 use Rattle.derive.proofs.pass.note_down.Statement.{statement}
 use Rattle.derive.proofs.pass.note_down.Tie as tie
 use lib.ListN.{length-set}
-use Rattle.derive.proofs.Lending.{noted}
+use Rattle.notes.proofs.Lending.{noted}
 use borrow.Author.Needs.{needs}
 use native.Mathlib.Omega.{arith}
 

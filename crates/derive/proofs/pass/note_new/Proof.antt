@@ -2,9 +2,9 @@ use mathlib.Core.Path.{refl}
 use lib.ListN.{getD}
 use Rattle.graph.specs.Held.{heldGraph}
 use Rattle.protocol.proofs.Growth.{length-tabulate}
-use Rattle.derive.specs.Records.{namedIn, recordIn, tableIn}
-use Rattle.derive.proofs.Working.{first-judged, second-judged}
-use Rattle.derive.proofs.Walking.{covers-crowd, covers-offers, covers-backers}
+use Rattle.notes.specs.Records.{namedIn, recordIn, tableIn}
+use Rattle.notes.proofs.Working.{first-judged, second-judged}
+use Rattle.notes.proofs.Walking.{covers-crowd, covers-offers, covers-backers}
 use Rattle.derive.proofs.Naming.{candidate}
 use borrow.Author.Needs.{needs}
 use native.Mathlib.Omega.{arith}

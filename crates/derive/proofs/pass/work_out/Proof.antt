@@ -1,19 +1,17 @@
 use Rattle.derive.proofs.pass.work_out.Statement.{statement}
 use Rattle.derive.proofs.pass.work_out.Tie as tie
-use mathlib.Core.Path.{_≡_, sym, ap, subst, transport, _∙_}
-use mathlib.Core.List.{List}
-use Prim.Native.Nat.{ℕ}
+use mathlib.Core.Path.{_≡_, sym, subst}
 use lib.ListN.{length}
 use Rattle.base.specs.Bytes.{part}
 use Rattle.base.proofs.Bytes.{part-length}
 use Rattle.graph.specs.Held.{heldGraph}
 use Rattle.protocol.specs.Table.{tabulate}
-use Rattle.scan.specs.Arrays.{Named, IdsIndexed}
-use Rattle.derive.specs.Notes.{keys}
-use Rattle.derive.specs.Lent.{Notes, Lent, MarksIn}
-use Rattle.derive.proofs.Growing.{known-none}
-use Rattle.derive.proofs.Walking.{marks-none}
-use Rattle.derive.proofs.Lending.{names-lent, names-back}
+use Rattle.notes.specs.Notes.{keys}
+use Rattle.notes.specs.Lent.{Lent, notesIn, MarksIn}
+use Rattle.notes.proofs.Growing.{known-none}
+use Rattle.notes.proofs.Walking.{marks-none}
+use Rattle.notes.proofs.Lending.{names-lent, names-back}
+use Rattle.derive.proofs.Extending.{all-complete}
 use borrow.Author.Needs.{needs}
 use native.Mathlib.Omega.{arith}
 
@@ -53,7 +51,24 @@ extended-requires c κs =
     let e = names-back w b ns ks lent kn kk in
     let lens = pre .1 .1 .1 .1 .0 in
     let l = names-lent w b ns ks lent kn kk in
-    (pre .0, (pre .1 .0, (pre .1 .1 .0, (pre .1 .1 .1 .0, (lens .kindsFit, (lens .signersFit, (lens .ballotsFit, (lens .previousFit, (lens .countsFit, (lens .referencesFit, (omega arith, (l, subst (MarksIn 0 (a .kinds .now) (a .signers .now) (a .previous .now)) (sym e) (marks-none (a .kinds .now) (a .signers .now) ns (a .previous .now) _ _ _ _ _ _ _ _ (part-length keys w 704 (omega (arith, lent .0))) (part-length keys w 776 (omega (arith, lent .0))))))))))))))))
+    let none = marks-none (a .kinds .now) (a .signers .now) ns (a .previous .now) _ _ _ _ _ _ _ _ (part-length keys w 704 (omega (arith, lent .0))) (part-length keys w 776 (omega (arith, lent .0))) in (
+      omega arith,
+      (
+        record {
+          acceptorsFit = pre .0;
+          learnersFit = pre .1 .0;
+          sized = pre .1 .1 .0;
+          fit = pre .1 .1 .1 .0;
+          kindsFit = lens .kindsFit;
+          signersFit = lens .signersFit;
+          ballotsFit = lens .ballotsFit;
+          previousFit = lens .previousFit;
+          countsFit = lens .countsFit;
+          referencesFit = lens .referencesFit;
+        },
+        (l, subst (MarksIn 0 (a .kinds .now) (a .signers .now) (a .previous .now)) (sym e) none),
+      ),
+    )
 
 same-length : tie.Need-same-length
 same-length c = search needs
@@ -76,16 +91,9 @@ returns c =
     let lent : Lent w b = pre .1 .1 .1 .1 .1 in
     let e = names-back w b ns ks lent kn kk in
     let more = c .before .before .before .before .extended in
-    let same = more .ensures .0 in
-    let names = same .0 ∙ ap (λ (z : Notes). z .names) e in
-    let low = same .1 .0 ∙ ap (λ (z : Notes). z .idlow) e in
-    let high = same .1 .1 ∙ ap (λ (z : Notes). z .idhigh) e in (
-      (
-        subst (λ (y : List ℕ). Named (a .ids .now) (a .n) y) (sym names) (named .ensures .0),
-        more .ensures .1 .1 (a .ids .now) (subst (λ (z : Notes). Named (a .ids .now) (a .n) (z .names)) (sym e) (named .ensures .0)) (known-none (heldGraph (a .acceptors) (a .l) (a .lists .now) (a .masks .now)) (a .kinds .now) (a .signers .now) _ _ _ _ _ _ _ _),
-      ),
-      (transport (λ i. IdsIndexed (a .ids .now) (a .n) (sym low i) (sym high i)) (named .ensures .1), more .ensures .1 .0),
-    )
+    let x = notesIn w b in
+    all-complete (heldGraph (a .acceptors) (a .l) (a .lists .now) (a .masks .now)) (a .ids .now) (a .kinds .now) (a .signers .now) (a .ballots .now) (a .previous .now) (a .counts .now) (a .references .now) (a .n) 0 x _ (notesIn (more .last .0) (more .last .1 .0)) ns (part 32 ks 0) (part 32 ks 32) e (more .ensures) (named .ensures .0) (named .ensures .1)
+    (known-none (heldGraph (a .acceptors) (a .l) (a .lists .now) (a .masks .now)) (a .kinds .now) (a .signers .now) (x .low) (x .high) (x .forklow) (x .forkhigh) (x .tops) (x .learners) (x .fresh) (x .forms))
 
 pub work-out-spec : {M : Type 1} → statement M
 work-out-spec =

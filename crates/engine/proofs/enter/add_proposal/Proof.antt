@@ -3,8 +3,8 @@ use Rattle.digest.specs.Sha256.{sha256}
 use Rattle.protocol.specs.Table.{offers}
 use Rattle.roundbytes.specs.Layout.{roundIn}
 use Rattle.roundbytes.proofs.Typing.{read-typed}
-use Rattle.engine.specs.Giving.{left}
-use Rattle.engine.proofs.Replying.{kept-on, kept-long}
+use Rattle.answering.specs.Giving.{left}
+use Rattle.answering.proofs.Replying.{kept-on, kept-long}
 use Rattle.engine.proofs.Entering.{held-room, new-answers, new-masks, enters-new, proposal-storable}
 use borrow.Author.Needs.{needs}
 use native.Mathlib.Omega.{arith}
@@ -24,6 +24,7 @@ hold-proposal-requires c κs =
     (p .0, (held-room (roundIn (a .s .now)) (a .id .now) (a .reply .now) (p .1 .1 .0 .0), p .1 .1 .1))
 
 process-requires : tie.Need-process-requires
+unfolding roundIn
 process-requires c κs =
     let a = c .before .before .before .before .before .before .before .before .before .before .before .before .args in
     let b = a .s .now in
@@ -47,6 +48,7 @@ same-length-2 : tie.Need-same-length-2
 same-length-2 c = search needs
 
 returns : tie.Need-returns
+unfolding roundIn
 returns c =
     let a = c .before .before .before .before .before .before .before .before .before .before .before .before .before .before .before .before .before .args in
     let b = a .s .now in

@@ -9,10 +9,10 @@ use Rattle.round.specs.Delivery.{hold, previousPlace}
 use Rattle.round.proofs.Fitting.{fits-out}
 use Rattle.roundbytes.specs.Layout.{roundIn}
 use Rattle.roundbytes.proofs.Typing.{read-typed}
-use Rattle.steps.specs.Lent.{previousIn, previousPlaceIn}
-use Rattle.steps.proofs.Lent.{previous-lent}
-use Rattle.engine.specs.Giving.{left}
-use Rattle.engine.proofs.Replying.{kept-on, kept-long}
+use Rattle.admission.specs.Lent.{previousIn, previousPlaceIn}
+use Rattle.admission.proofs.Lent.{previous-lent}
+use Rattle.answering.specs.Giving.{left}
+use Rattle.answering.proofs.Replying.{kept-on, kept-long}
 use Rattle.engine.proofs.Entering.{held-room, new-answers, new-masks, enters-new, vote-storable}
 use Rattle.engine.proofs.Keeping.{new-worked}
 use borrow.Author.Needs.{needs}
@@ -36,6 +36,7 @@ part-previous-place-end : tie.Need-part-previous-place-end
 part-previous-place-end c = search needs
 
 previous-place-requires : tie.Need-previous-place-requires
+unfolding roundIn
 previous-place-requires c κs =
     let a = c .before .before .before .before .before .before .before .before .before .before .before .before .args in
     let b = a .s .now in
@@ -57,6 +58,7 @@ hold-vote-requires c κs =
     (p .0, (held-room (roundIn (a .s .now)) (a .id .now) (a .reply .now) (p .1 .1 .1 .0 .0), (p .1 .1 .1 .1 .0, (omega arith, q))))
 
 process-new-requires : tie.Need-process-new-requires
+unfolding roundIn
 process-new-requires c κs =
     let a = c .before .before .before .before .before .before .before .before .before .before .before .before .before .before .before .before .before .before .before .before .before .args in
     let b = a .s .now in
@@ -89,6 +91,7 @@ same-length-4 : tie.Need-same-length-4
 same-length-4 c = search needs
 
 returns : tie.Need-returns
+unfolding roundIn
 returns c =
     let a = c .before .before .before .before .before .before .before .before .before .before .before .before .before .before .before .before .before .before .before .before .before .before .before .before .before .before .before .before .before .before .args in
     let b = a .s .now in

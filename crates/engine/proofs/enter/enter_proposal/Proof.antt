@@ -7,10 +7,10 @@ use Rattle.protocol.specs.Table.{offers}
 use Rattle.round.specs.Held.{placeOf}
 use Rattle.round.proofs.Fitting.{fits-out}
 use Rattle.roundbytes.specs.Layout.{roundIn}
-use Rattle.steps.specs.Lent.{placeIn}
-use Rattle.steps.proofs.Lent.{place-of, found-at, found-nothing}
-use Rattle.engine.specs.Giving.{left}
-use Rattle.engine.proofs.Replying.{kept-on, kept-long}
+use Rattle.admission.specs.Lent.{placeIn}
+use Rattle.admission.proofs.Lent.{place-of, found-at, found-nothing}
+use Rattle.answering.specs.Giving.{left}
+use Rattle.answering.proofs.Replying.{kept-on, kept-long}
 use Rattle.engine.proofs.Entering.{back-answers, back-masks, enters-back}
 use borrow.Author.Needs.{needs}
 use native.Mathlib.Omega.{arith}
@@ -33,6 +33,7 @@ part-place-of-end : tie.Need-part-place-of-end
 part-place-of-end c = search needs
 
 place-of-requires : tie.Need-place-of-requires
+unfolding roundIn
 place-of-requires c κs =
     let a = c .before .before .before .before .before .before .before .before .args in
     let b = a .s .now in
@@ -47,6 +48,7 @@ enum-known-p : tie.Need-enum-known-p
 enum-known-p c = search needs
 
 returned-requires : tie.Need-returned-requires
+unfolding roundIn
 returned-requires c κs =
     let a = c .before .before .before .before .before .before .before .before .before .before .before .before .before .args in
     let b = a .s .now in
@@ -60,6 +62,7 @@ returned-requires c κs =
     (p .0, omega arith)
 
 process-requires : tie.Need-process-requires
+unfolding roundIn
 process-requires c κs =
     let a = c .before .before .before .before .before .before .before .before .before .before .before .before .before .before .before .before .before .before .args in
     let b = a .s .now in
@@ -77,6 +80,7 @@ enum-told : tie.Need-enum-told
 enum-told c = search needs
 
 add-proposal-requires : tie.Need-add-proposal-requires
+unfolding roundIn
 add-proposal-requires c κs =
     let a = c .before .before .before .before .before .before .before .before .before .before .before .before .before .args in
     let b = a .s .now in
@@ -94,6 +98,7 @@ same-length-2 : tie.Need-same-length-2
 same-length-2 c = search needs
 
 returns : tie.Need-returns
+unfolding roundIn
 returns c =
     let a = c .before .before .before .before .before .before .before .before .before .before .before .before .before .before .before .before .before .before .before .before .before .before .before .args in
     let b = a .s .now in

@@ -8,10 +8,10 @@ use Rattle.protocol.specs.Table.{says}
 use Rattle.round.specs.Held.{placeOf}
 use Rattle.round.proofs.Fitting.{fits-out}
 use Rattle.roundbytes.specs.Layout.{roundIn}
-use Rattle.steps.specs.Lent.{placeIn, previousIn}
-use Rattle.steps.proofs.Lent.{place-of, found-at, found-nothing}
-use Rattle.engine.specs.Giving.{left}
-use Rattle.engine.proofs.Replying.{kept-on, kept-long}
+use Rattle.admission.specs.Lent.{placeIn, previousIn}
+use Rattle.admission.proofs.Lent.{place-of, found-at, found-nothing}
+use Rattle.answering.specs.Giving.{left}
+use Rattle.answering.proofs.Replying.{kept-on, kept-long}
 use Rattle.engine.proofs.Entering.{back-answers, back-masks, enters-back}
 use Rattle.engine.proofs.Keeping.{worked-back}
 use borrow.Author.Needs.{needs}
@@ -35,6 +35,7 @@ part-place-of-end : tie.Need-part-place-of-end
 part-place-of-end c = search needs
 
 place-of-requires : tie.Need-place-of-requires
+unfolding roundIn
 place-of-requires c κs =
     let a = c .before .before .before .before .before .before .before .before .before .before .before .before .args in
     let b = a .s .now in
@@ -49,6 +50,7 @@ enum-known-p : tie.Need-enum-known-p
 enum-known-p c = search needs
 
 returned-requires : tie.Need-returned-requires
+unfolding roundIn
 returned-requires c κs =
     let a = c .before .before .before .before .before .before .before .before .before .before .before .before .before .before .before .before .before .args in
     let b = a .s .now in
@@ -62,6 +64,7 @@ returned-requires c κs =
     (p .0, omega arith)
 
 process-by-requires : tie.Need-process-by-requires
+unfolding roundIn
 process-by-requires c κs =
     let a = c .before .before .before .before .before .before .before .before .before .before .before .before .before .before .before .before .before .before .before .before .before .before .before .before .args in
     let b = a .s .now in
@@ -79,6 +82,7 @@ enum-told : tie.Need-enum-told
 enum-told c = search needs
 
 add-vote-requires : tie.Need-add-vote-requires
+unfolding roundIn
 add-vote-requires c κs =
     let a = c .before .before .before .before .before .before .before .before .before .before .before .before .before .before .before .before .before .before .before .args in
     let b = a .s .now in
@@ -102,6 +106,7 @@ same-length-4 : tie.Need-same-length-4
 same-length-4 c = search needs
 
 returns : tie.Need-returns
+unfolding roundIn
 returns c =
     let a = c .before .before .before .before .before .before .before .before .before .before .before .before .before .before .before .before .before .before .before .before .before .before .before .before .before .before .before .before .before .args in
     let b = a .s .now in

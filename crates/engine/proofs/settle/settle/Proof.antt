@@ -4,40 +4,16 @@ use Rattle.digest.specs.Sha256.{sha256}
 use Rattle.protocol.specs.Table.{says}
 use Rattle.round.specs.declared.Outcome.the-variants.{Refused}
 use Rattle.round.specs.Rows.{messageOf}
-use Rattle.round.proofs.Fitting.{fits-out}
 use Rattle.roundbytes.specs.Layout.{roundIn}
-use Rattle.steps.specs.Lent.{previousIn}
+use Rattle.admission.specs.Lent.{previousIn}
 use Rattle.judging.specs.Turning.{soundRow}
-use Rattle.judging.proofs.Worked.{places-below}
 use Rattle.judging.proofs.Ordered.{row-applies, row-clear}
-use Rattle.engine.specs.Giving.{left}
+use Rattle.judging.proofs.Voting.{sound-free}
+use Rattle.answering.specs.Giving.{left}
 use Rattle.engine.proofs.Taking.{taken-refused, taken-entered}
-use Rattle.engine.proofs.Settling.{sound-free}
 use borrow.Author.Needs.{needs}
 use Rattle.engine.proofs.settle.settle.Statement.{statement}
 use Rattle.engine.proofs.settle.settle.Tie as tie
-
-hears-first-requires : tie.Need-hears-first-requires
-hears-first-requires c κs =
-    let a = c .before .before .before .before .before .before .args in
-    let p = c .before .before .before .before .before .before .pre in
-    let r = roundIn (a .s .now) in
-    let most = fits-out r (p .1 .0) .most in
-    let q = p .1 .1 .1 .1 in
-    (p .0, (most, (p .1 .1 .0, (q .0, places-below (take (a .count) (a .places .now)) (r .held) most (q .1 .0 .earlier)))))
-
-settle-first-requires : tie.Need-settle-first-requires
-settle-first-requires c κs =
-    let p = c .before .before .before .before .before .before .before .before .before .pre in
-    (p .0, (p .1 .0, (p .1 .1 .0, (p .1 .1 .1 .0, (p .1 .1 .1 .1 .0, (p .1 .1 .1 .1 .1 .0, sym (c .before .before .hears-first .ensures) ∙ c .before .if1 .taken))))))
-
-same-length : tie.Need-same-length
-same-length c = search needs
-
-returns : tie.Need-returns
-returns c =
-    let y = c .before .before .settle-first .ensures in
-    (y .0 (c .before .before .before .before .before .before .before .before .before .before .before .before .args .reply .now), y .1)
 
 masks-in-requires : tie.Need-masks-in-requires
 masks-in-requires c κs = search needs
@@ -52,6 +28,7 @@ slice-aggregate-notes-of-3 : tie.Need-slice-aggregate-notes-of-3
 slice-aggregate-notes-of-3 c = search needs
 
 notes-of-requires : tie.Need-notes-of-requires
+unfolding roundIn
 notes-of-requires c κs = search needs
 
 slice-aggregate-sound-row : tie.Need-slice-aggregate-sound-row
@@ -64,20 +41,22 @@ slice-aggregate-sound-row-3 : tie.Need-slice-aggregate-sound-row-3
 slice-aggregate-sound-row-3 c = search needs
 
 sound-row-requires : tie.Need-sound-row-requires
+unfolding roundIn
 sound-row-requires c κs =
-    let p = c .before .before .before .before .before .before .before .before .before .before .before .before .before .before .before .before .before .before .before .before .before .pre in
+    let p = c .before .before .before .before .before .before .before .before .before .before .before .before .before .before .before .before .before .before .pre in
     let q = p .1 .1 .1 .1 in
     (p .0, (c .before .before .before .before .before .before .before .before .before .before .before .masks-in .ensures, (p .1 .0, (c .before .before .before .before .before .before .notes-of .ensures, (p .1 .1 .0, (p .1 .1 .1 .0, (q .0, q .1 .0)))))))
 
 enum-known-sound : tie.Need-enum-known-sound
 enum-known-sound c = search needs
 
-same-length-2 : tie.Need-same-length-2
-same-length-2 c = search needs
+same-length : tie.Need-same-length
+same-length c = search needs
 
-returns-2 : tie.Need-returns-2
-returns-2 c =
-    let a = c .before .before .before .before .before .before .before .before .before .before .before .before .before .before .before .before .before .before .before .before .before .before .before .before .before .args in
+returns : tie.Need-returns
+unfolding roundIn
+returns c =
+    let a = c .before .before .before .before .before .before .before .before .before .before .before .before .before .before .before .before .before .before .before .before .before .before .args in
     let s = a .s .now in
     let r = roundIn s in
     let i = a .id .now in
@@ -99,9 +78,10 @@ slice-aggregate-enter-vote-3 : tie.Need-slice-aggregate-enter-vote-3
 slice-aggregate-enter-vote-3 c = search needs
 
 enter-vote-requires : tie.Need-enter-vote-requires
+unfolding roundIn
 enter-vote-requires c κs =
-    let a = c .before .before .before .before .before .before .before .before .before .before .before .before .before .before .before .before .before .before .before .before .before .before .before .before .before .before .before .before .before .args in
-    let p = c .before .before .before .before .before .before .before .before .before .before .before .before .before .before .before .before .before .before .before .before .before .before .before .before .before .before .before .before .before .pre in
+    let a = c .before .before .before .before .before .before .before .before .before .before .before .before .before .before .before .before .before .before .before .before .before .before .before .before .before .before .args in
+    let p = c .before .before .before .before .before .before .before .before .before .before .before .before .before .before .before .before .before .before .before .before .before .before .before .before .before .before .pre in
     let q = p .1 .1 .1 .1 in
     let r = roundIn (a .s .now) in
     let i = a .id .now in
@@ -110,15 +90,17 @@ enter-vote-requires c κs =
     let free = sound-free r i (messageOf r h) (row-clear row (sym (c .before .before .before .before .before .before .before .sound-row .ensures) ∙ c .before .before .before .before .before .enum-told .given .1)) in
     (p .0, (c .before .before .before .before .before .before .before .before .before .before .before .before .before .before .before .before .before .before .before .masks-in .ensures, (c .before .before .before .before .before .before .before .before .before .before .before .before .before .before .notes-of .ensures, (record { fit = p .1 .0; free = free; long = q .1 .1 }, (p .1 .1 .0, (p .1 .1 .1 .0, (q .0, q .1 .0)))))))
 
+same-length-2 : tie.Need-same-length-2
+same-length-2 c = search needs
+
 same-length-3 : tie.Need-same-length-3
+unfolding roundIn
 same-length-3 c = search needs
 
-same-length-4 : tie.Need-same-length-4
-same-length-4 c = search needs
-
-returns-3 : tie.Need-returns-3
-returns-3 c =
-    let a = c .before .before .before .before .before .before .before .before .before .before .before .before .before .before .before .before .before .before .before .before .before .before .before .before .before .before .before .before .before .before .before .before .before .before .before .before .args in
+returns-2 : tie.Need-returns-2
+unfolding roundIn
+returns-2 c =
+    let a = c .before .before .before .before .before .before .before .before .before .before .before .before .before .before .before .before .before .before .before .before .before .before .before .before .before .before .before .before .before .before .before .before .before .args in
     let r = roundIn (a .s .now) in
     let i = a .id .now in
     let h = says i (a .signer) (previousIn (a .bytes .now) (a .previous)) (take (a .count) (a .places .now)) in
@@ -131,10 +113,6 @@ pub settle-spec : {M : Type 1} → statement M
 settle-spec =
     tie.close
     (tie.spec
-    hears-first-requires
-    settle-first-requires
-    same-length
-    returns
     masks-in-requires
     slice-aggregate-notes-of
     slice-aggregate-notes-of-2
@@ -145,13 +123,13 @@ settle-spec =
     slice-aggregate-sound-row-3
     sound-row-requires
     enum-known-sound
-    same-length-2
-    returns-2
+    same-length
+    returns
     enum-told
     slice-aggregate-enter-vote
     slice-aggregate-enter-vote-2
     slice-aggregate-enter-vote-3
     enter-vote-requires
+    same-length-2
     same-length-3
-    same-length-4
-    returns-3)
+    returns-2)

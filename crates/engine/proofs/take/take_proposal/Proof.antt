@@ -8,7 +8,7 @@ use Rattle.round.specs.declared.Outcome.the-variants.{Refused}
 use Rattle.round.specs.Rows.{otherRound, isKnownId, full, proposalRows, firstOf}
 use Rattle.round.proofs.Fitting.{fits-out}
 use Rattle.roundbytes.specs.Layout.{roundIn}
-use Rattle.engine.specs.Giving.{left}
+use Rattle.answering.specs.Giving.{left}
 use Rattle.engine.proofs.Taking.{proposal-row, three-other, three-known, three-full, three-none, taken-refused, taken-entered}
 use borrow.Author.Needs.{needs}
 use Rattle.engine.proofs.take.take_proposal.Statement.{statement}
@@ -88,6 +88,7 @@ slice-aggregate-enter-proposal : tie.Need-slice-aggregate-enter-proposal
 slice-aggregate-enter-proposal c = search needs
 
 enter-proposal-requires : tie.Need-enter-proposal-requires
+unfolding roundIn
 enter-proposal-requires c κs =
     let a = c .before .before .before .before .before .before .before .before .before .before .before .before .before .before .before .before .before .args in
     let p = c .before .before .before .before .before .before .before .before .before .before .before .before .before .before .before .before .before .pre in

@@ -7,7 +7,7 @@ use Rattle.round.specs.declared.Outcome.the-variants.{Refused}
 use Rattle.round.specs.Rows.{referenceIds, previousId, voteRecord}
 use Rattle.round.proofs.Fitting.{fits-out}
 use Rattle.roundbytes.specs.Layout.{roundIn}
-use Rattle.engine.specs.Giving.{left}
+use Rattle.answering.specs.Giving.{left}
 use Rattle.judging.proofs.Ordered.{row-clear}
 use Rattle.engine.proofs.Taking.{taken-refused, taken-settled}
 use Rattle.judging.proofs.Voting.{references-within, previous-within, fewer, referring, chains, rows, by-head, by-chain}

@@ -2,12 +2,12 @@ use mathlib.Core.Path.{_≡_, refl, sym, subst}
 use mathlib.Core.Logic.{_⊎_}
 use Prim.Native.Nat.{ℕ, _<_}
 use Rattle.protocol.specs.Table.{says}
-use Rattle.derive.specs.Records.{Fit}
-use Rattle.derive.specs.Lent.{notesIn}
+use Rattle.notes.specs.Records.{Fit}
+use Rattle.notes.specs.Lent.{notesIn}
 use Rattle.round.specs.Held.{named}
 use Rattle.round.proofs.Fitting.{fits-out}
 use Rattle.roundbytes.specs.Layout.{roundIn}
-use Rattle.derive.proofs.Lending.{rooms-in}
+use Rattle.notes.proofs.Lending.{rooms-in}
 use Rattle.judging.proofs.Worked.{fit-lent, work-asked, notes-lent, judged-lent, sizes-in, room, read-most, places-below}
 use borrow.Author.Needs.{needs}
 use native.Mathlib.Omega.{arith}
@@ -204,6 +204,7 @@ part-note-new-end-18 : tie.Need-part-note-new-end-18
 part-note-new-end-18 c = room (c .before .before .before .before .before .before .before .before .before .before .before .before .before .before .before .before .before .before .before .before .before .before .before .before .before .before .before .before .before .before .args .words .now) 850 848 (c .before .before .before .before .before .before .before .before .before .before .before .before .before .before .before .before .before .before .before .before .before .before .before .before .before .before .before .before .before .before .pre .1 .1 .1 .0 .0 .0) (omega arith)
 
 note-new-requires : tie.Need-note-new-requires
+unfolding roundIn
 note-new-requires c κs =
     let a = c .before .before .before .before .before .before .before .before .before .before .before .before .before .before .before .before .before .before .before .before .before .before .before .before .before .before .before .before .before .before .before .args in
     let p = c .before .before .before .before .before .before .before .before .before .before .before .before .before .before .before .before .before .before .before .before .before .before .before .before .before .before .before .before .before .before .before .pre in
@@ -241,6 +242,7 @@ note-new-requires c κs =
     )
 
 returns : tie.Need-returns
+unfolding roundIn
 returns c =
     let a = c .before .before .before .before .before .before .before .before .before .before .before .before .before .before .before .before .before .before .before .before .before .before .before .before .before .before .before .before .before .before .before .before .args in
     let p = c .before .before .before .before .before .before .before .before .before .before .before .before .before .before .before .before .before .before .before .before .before .before .before .before .before .before .before .before .before .before .before .before .pre in

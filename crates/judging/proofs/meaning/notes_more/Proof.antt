@@ -1,6 +1,6 @@
 use mathlib.Core.Path.{_≡_, sym, _∙_}
 use Prim.Native.Nat.{suc}
-use Rattle.derive.specs.Lent.{notesIn}
+use Rattle.notes.specs.Lent.{notesIn}
 use Rattle.round.proofs.Fitting.{fits-out}
 use Rattle.roundbytes.specs.Layout.{roundIn}
 use Rattle.judging.proofs.Worked.{work-asked, notes-read, fewer-lent, sizes-in, within}
@@ -88,6 +88,7 @@ part-grown-end-7 : tie.Need-part-grown-end-7
 part-grown-end-7 c = within (c .before .before .before .before .before .before .before .before .before .before .before .before .before .before .before .before .before .args .s .now) 23478 (c .before .before .before .before .before .before .before .before .before .before .before .before .before .before .before .before .before .pre .0) (omega arith)
 
 grown-requires : tie.Need-grown-requires
+unfolding roundIn
 grown-requires c κs =
     let a = c .before .before .before .before .before .before .before .before .before .before .before .before .before .before .before .before .before .before .args in
     let p = c .before .before .before .before .before .before .before .before .before .before .before .before .before .before .before .before .before .before .pre in
@@ -108,6 +109,7 @@ same-length-2 : tie.Need-same-length-2
 same-length-2 c = search needs
 
 returns : tie.Need-returns
+unfolding roundIn
 returns c =
     let a = c .before .before .before .before .before .before .before .before .before .before .before .before .before .before .before .before .before .before .before .before .before .before .before .args in
     let p = c .before .before .before .before .before .before .before .before .before .before .before .before .before .before .before .before .before .before .before .before .before .before .before .pre in

@@ -1,5 +1,5 @@
 use mathlib.Core.Path.{_∙_}
-use Rattle.derive.specs.Lent.{notesIn}
+use Rattle.notes.specs.Lent.{notesIn}
 use Rattle.round.proofs.Fitting.{fits-out}
 use Rattle.roundbytes.specs.Layout.{roundIn}
 use Rattle.judging.proofs.Worked.{work-asked, notes-read, sizes-in, within}
@@ -93,6 +93,7 @@ part-work-out-end-7 : tie.Need-part-work-out-end-7
 part-work-out-end-7 c = within (c .before .before .before .before .before .before .before .before .before .before .before .before .before .before .before .before .before .before .before .args .s .now) 23478 (c .before .before .before .before .before .before .before .before .before .before .before .before .before .before .before .before .before .before .before .pre .0) (omega arith)
 
 work-out-requires : tie.Need-work-out-requires
+unfolding roundIn
 work-out-requires c κs =
     let a = c .before .before .before .before .before .before .before .before .before .before .before .before .before .before .before .before .before .before .before .before .args in
     let p = c .before .before .before .before .before .before .before .before .before .before .before .before .before .before .before .before .before .before .before .before .pre in
@@ -111,6 +112,7 @@ same-length-2 : tie.Need-same-length-2
 same-length-2 c = search needs
 
 returns : tie.Need-returns
+unfolding roundIn
 returns c =
     let a = c .before .before .before .before .before .before .before .before .before .before .before .before .before .before .before .before .before .before .before .before .before .before .before .before .before .args in
     let p = c .before .before .before .before .before .before .before .before .before .before .before .before .before .before .before .before .before .before .before .before .before .before .before .before .before .pre in

@@ -1,8 +1,8 @@
 use mathlib.Core.Path.{ap, sym, _∙_}
 use Prim.Native.Nat.{ℕ}
 use Rattle.roundbytes.specs.Layout.{roundIn}
-use Rattle.steps.specs.Lent.{isKnownIn}
-use Rattle.steps.proofs.Lent.{known-lent}
+use Rattle.admission.specs.Lent.{isKnownIn}
+use Rattle.admission.proofs.Lent.{known-lent}
 use borrow.Author.Needs.{needs}
 use Rattle.judging.proofs.rows.knows.Statement.{statement}
 use Rattle.judging.proofs.rows.knows.Tie as tie
@@ -32,9 +32,11 @@ part-is-known-end-2 : tie.Need-part-is-known-end-2
 part-is-known-end-2 c = search needs
 
 is-known-requires : tie.Need-is-known-requires
+unfolding roundIn
 is-known-requires c κs = search needs
 
 returns : tie.Need-returns
+unfolding roundIn
 returns c =
     let a = c .before .before .before .before .before .before .before .args in
     let s = a .s .now in

@@ -5,8 +5,8 @@ use lib.Dec.{ltb, leb}
 use Rattle.base.specs.Tests.{pick}
 use Rattle.round.specs.Rows.{isAwaited}
 use Rattle.roundbytes.specs.Layout.{roundIn}
-use Rattle.steps.specs.Lent.{isAwaitedIn}
-use Rattle.steps.proofs.Lent.{awaited-lent}
+use Rattle.admission.specs.Lent.{isAwaitedIn}
+use Rattle.admission.proofs.Lent.{awaited-lent}
 use Rattle.judging.proofs.Worked.{sizes-in, read-most}
 use borrow.Author.Needs.{needs}
 use Rattle.judging.proofs.rows.lacks_room.Statement.{statement}
@@ -37,6 +37,7 @@ part-is-awaited-end-2 : tie.Need-part-is-awaited-end-2
 part-is-awaited-end-2 c = search needs
 
 is-awaited-requires : tie.Need-is-awaited-requires
+unfolding roundIn
 is-awaited-requires c κs =
     let a = c .before .before .before .before .before .before .args in
     let p = c .before .before .before .before .before .before .pre in
@@ -56,6 +57,7 @@ is-full-requires : tie.Need-is-full-requires
 is-full-requires c κs = search needs
 
 returns : tie.Need-returns
+unfolding roundIn
 returns c =
     let a = c .before .before .before .before .before .before .before .before .before .before .args in
     let s = a .s .now in

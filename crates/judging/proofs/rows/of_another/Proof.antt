@@ -1,3 +1,4 @@
+use Rattle.roundbytes.specs.Layout.{roundIn}
 use mathlib.Core.Path.{ap₂, _∙_}
 use mathlib.Core.Bool.{not, _&&_}
 use Prim.Native.Nat.{ℕ}
@@ -16,6 +17,7 @@ is-other-requires : tie.Need-is-other-requires
 is-other-requires c κs = search needs
 
 returns : tie.Need-returns
+unfolding roundIn
 returns c = let a = c .before .before .before .before .args in c .is-other .ensures ∙ ap₂ (λ (h b : ℕ). not (eqb (a .house) h && eqb (a .bay) b)) (c .before .before .word16 .ensures) (c .before .word162 .ensures)
 
 pub of-another-spec : {M : Type 1} → statement M

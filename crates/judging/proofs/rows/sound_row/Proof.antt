@@ -5,15 +5,15 @@ use Prim.Native.Nat.{ℕ, _-_, _<_}
 use lib.ListN.{take, drop}
 use Rattle.base.specs.Tests.{_∈_}
 use Rattle.protocol.specs.Table.{Held, says}
-use Rattle.derive.specs.Notes.{Judged}
+use Rattle.notes.specs.Notes.{Judged}
 use Rattle.round.specs.Held.{graphOf, named}
 use Rattle.round.specs.Rows.{messageOf}
 use Rattle.round.specs.Delivery.{previousPlace}
 use Rattle.round.proofs.Fitting.{fits-out, place-cases}
 use Rattle.roundbytes.specs.Layout.{roundIn}
-use Rattle.steps.specs.Lent.{previousIn, previousPlaceIn}
-use Rattle.judging.specs.Turning.{rowOf}
-use Rattle.steps.proofs.Lent.{previous-lent}
+use Rattle.admission.specs.Lent.{previousIn, previousPlaceIn}
+use Rattle.order.specs.Rows.{rowOf}
+use Rattle.admission.proofs.Lent.{previous-lent}
 use Rattle.judging.proofs.Worked.{sizes-in, read-most}
 use Rattle.judging.proofs.Ordered.{front-part}
 use Rattle.judging.proofs.Voting.{form-judged}
@@ -37,6 +37,7 @@ part-previous-place-end : tie.Need-part-previous-place-end
 part-previous-place-end c = search needs
 
 previous-place-requires : tie.Need-previous-place-requires
+unfolding roundIn
 previous-place-requires c κs =
     let a = c .before .before .before .before .before .before .before .before .before .before .args in
     let p = c .before .before .before .before .before .before .before .before .before .before .pre in
@@ -55,6 +56,7 @@ part-judge-end : tie.Need-part-judge-end
 part-judge-end c = search needs
 
 judge-requires : tie.Need-judge-requires
+unfolding roundIn
 judge-requires c κs =
     let a = c .before .before .before .before .before .before .before .before .before .before .before .before .args in
     let p = c .before .before .before .before .before .before .before .before .before .before .before .before .pre in
@@ -79,6 +81,7 @@ form-row-requires : tie.Need-form-row-requires
 form-row-requires c κs = search needs
 
 returns : tie.Need-returns
+unfolding roundIn
 returns c =
     let a = c .before .before .before .before .before .before .before .before .before .before .before .before .before .before .before .args in
     let p = c .before .before .before .before .before .before .before .before .before .before .before .before .before .before .before .pre in

@@ -1,12 +1,12 @@
 use mathlib.Core.Path.{refl, sym, subst, ap, _∙_}
 use Prim.Native.Nat.{ℕ, _<_}
 use Rattle.protocol.proofs.Growth.{length-tabulate}
-use Rattle.derive.specs.Deciding.{shown}
-use Rattle.derive.specs.Records.{recordIn}
-use Rattle.derive.specs.Lent.{notesIn}
+use Rattle.deciding.specs.Deciding.{shown}
+use Rattle.notes.specs.Records.{recordIn}
+use Rattle.notes.specs.Lent.{notesIn}
 use Rattle.round.proofs.Fitting.{fits-out}
 use Rattle.roundbytes.specs.Layout.{roundIn}
-use Rattle.derive.proofs.Lending.{rooms-in}
+use Rattle.notes.proofs.Lending.{rooms-in}
 use Rattle.judging.proofs.Worked.{tableTo, work-asked, notes-lent, reported-lent, sizes-in, room, read-most}
 use borrow.Author.Needs.{needs}
 use native.Mathlib.Omega.{arith}
@@ -170,6 +170,7 @@ part-report-for-end-14 : tie.Need-part-report-for-end-14
 part-report-for-end-14 c = room (c .before .before .before .before .before .before .before .before .before .before .before .before .before .before .before .before .before .before .before .before .before .notes-of .last .1 .1 .0) 850 848 (c .before .before .before .before .before .before .before .before .before .before .before .before .before .before .before .before .before .before .before .before .before .notes-of .ensures .0 .0) (omega arith)
 
 report-for-requires : tie.Need-report-for-requires
+unfolding roundIn
 report-for-requires c κs =
     let a = c .before .before .before .before .before .before .before .before .before .before .before .before .before .before .before .before .before .before .before .before .before .before .before .before .before .before .before .before .args in
     let p = c .before .before .before .before .before .before .before .before .before .before .before .before .before .before .before .before .before .before .before .before .before .before .before .before .before .before .before .before .pre in
@@ -188,6 +189,7 @@ report-for-requires c κs =
     (below, (w .1 .0, (w .0, (w .1 .1 .0, (most, (z .known, (y .forms, (y .learners, (y .tops, (z .signers, record { byBallot = m .byBallot; byForm = m .byForm; keyLowFit = m .keyLowFit; keyHighFit = m .keyHighFit }))))))))))
 
 returns : tie.Need-returns
+unfolding roundIn
 returns c =
     let a = c .before .before .before .before .before .before .before .before .before .before .before .before .before .before .before .before .before .before .before .before .before .before .before .before .before .before .before .before .before .args in
     let p = c .before .before .before .before .before .before .before .before .before .before .before .before .before .before .before .before .before .before .before .before .before .before .before .before .before .before .before .before .before .pre in

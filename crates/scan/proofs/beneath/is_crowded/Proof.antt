@@ -1,9 +1,9 @@
 use mathlib.Core.Path.{_≡_, _∙_}
 use Prim.Native.Nat.{_+_, _-_}
 use Rattle.base.specs.Tests.{any, below}
-use Rattle.scan.proofs.Loops.{any-again, any-next, any-done}
+use Rattle.places.proofs.Loops.{any-again, any-next, any-done}
 use Rattle.scan.specs.Arrays.{isCrowding}
-use Rattle.scan.proofs.Walks.{Left, walk-begun, walked-on}
+use Rattle.places.proofs.Walks.{Left, walk-begun, walked-on}
 use borrow.Author.Needs.{needs}
 use native.Mathlib.Omega.{arith}
 use Rattle.scan.proofs.beneath.is_crowded.Statement.{statement}

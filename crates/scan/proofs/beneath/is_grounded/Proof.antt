@@ -2,10 +2,10 @@ use mathlib.Core.Path.{_≡_, ap, _∙_}
 use mathlib.Core.Bool.{Bool, _&&_}
 use Prim.Native.Nat.{_+_, _-_}
 use Rattle.base.specs.Tests.{any, below}
-use Rattle.scan.specs.PlaceSets.{inSet}
-use Rattle.scan.proofs.Loops.{any-again, any-next, any-done}
+use Rattle.places.specs.PlaceSets.{inSet}
+use Rattle.places.proofs.Loops.{any-again, any-next, any-done}
 use Rattle.scan.specs.Arrays.{isOffer}
-use Rattle.scan.proofs.Walks.{Left, walk-begun, walked-on}
+use Rattle.places.proofs.Walks.{Left, walk-begun, walked-on}
 use borrow.Author.Needs.{needs}
 use native.Mathlib.Omega.{arith}
 use Rattle.scan.proofs.beneath.is_grounded.Statement.{statement}

@@ -3,11 +3,12 @@ use mathlib.Core.Bool.{_||_}
 use Prim.Native.Nat.{ℕ, _≤_, _-_, max}
 use lib.ListN.{length, getD, take}
 use Rattle.base.specs.Tests.{any}
-use Rattle.scan.specs.PlaceSets.{inSet}
+use Rattle.places.specs.PlaceSets.{inSet}
 use mathlib.Core.List.{List}
 use lib.Seq.{take-all}
-use Rattle.scan.proofs.Loops.{any-take, highest-take}
-use Rattle.scan.proofs.Membership.{in-zero, in-or}
+use Rattle.places.proofs.Loops.{any-take}
+use Rattle.scan.proofs.Highest.{highest-take}
+use Rattle.places.proofs.Membership.{in-zero, in-or}
 use Rattle.scan.specs.Arrays.{Beneath, isOffer, highest}
 use borrow.Author.Needs.{needs}
 use native.Mathlib.Omega.{arith}

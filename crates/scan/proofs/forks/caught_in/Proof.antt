@@ -6,10 +6,10 @@ use lib.Dec.{eqb}
 use Rattle.base.specs.Tests.{any, below}
 use Rattle.base.specs.Sets.{has}
 use Rattle.base.proofs.Tests.{and-l}
-use Rattle.scan.proofs.Loops.{put-again, any-next, any-done}
-use Rattle.scan.proofs.Membership.{has-zero}
+use Rattle.places.proofs.Loops.{put-again, any-next, any-done}
+use Rattle.places.proofs.Membership.{has-zero}
 use Rattle.scan.specs.Arrays.{isCaught}
-use Rattle.scan.proofs.Walks.{Left, walk-begun, walked-on}
+use Rattle.places.proofs.Walks.{Left, walk-begun, walked-on}
 use borrow.Author.Needs.{needs}
 use native.Mathlib.Omega.{arith}
 use Rattle.scan.proofs.forks.caught_in.Statement.{statement}

@@ -4,11 +4,11 @@ use Prim.Native.Nat.{ℕ, _+_, _<_, _-_}
 use lib.Dec.{eqb}
 use Rattle.base.specs.Tests.{any, below}
 use Rattle.base.proofs.Tests.{and-l}
-use Rattle.scan.specs.PlaceSets.{inSet}
-use Rattle.scan.proofs.Loops.{put-again, any-next, any-done}
-use Rattle.scan.proofs.Membership.{in-zero}
+use Rattle.places.specs.PlaceSets.{inSet}
+use Rattle.places.proofs.Loops.{put-again, any-next, any-done}
+use Rattle.places.proofs.Membership.{in-zero}
 use Rattle.scan.specs.Arrays.{isFork}
-use Rattle.scan.proofs.Walks.{Left, walk-begun, walked-on}
+use Rattle.places.proofs.Walks.{Left, walk-begun, walked-on}
 use borrow.Author.Needs.{needs}
 use native.Mathlib.Omega.{arith}
 use Rattle.scan.proofs.forks.forking.Statement.{statement}

@@ -1,9 +1,10 @@
 use mathlib.Core.Path.{_≡_, sym, _∙_}
 use Prim.Native.Nat.{ℕ, _+_, _<_, _-_}
 use borrow.Author.Count.{below-more}
-use Rattle.scan.proofs.Naming.{lent, other, passed}
+use Rattle.places.proofs.Membership.{other}
+use Rattle.scan.proofs.Naming.{lent, passed}
 use Rattle.scan.specs.Arrays.{idIn}
-use Rattle.scan.proofs.Walks.{Left, walk-begun, walked-on}
+use Rattle.places.proofs.Walks.{Left, walk-begun, walked-on}
 use borrow.Author.Needs.{needs}
 use native.Mathlib.Omega.{arith}
 use Rattle.scan.proofs.names.name_of.Statement.{statement}

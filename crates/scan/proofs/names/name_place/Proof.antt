@@ -4,9 +4,10 @@ use Prim.Native.Nat.{ℕ, _*_}
 use lib.Dec.{T}
 use lib.ListN.{getD}
 use Rattle.base.specs.Bytes.{part}
-use Rattle.scan.specs.PlaceSets.{inSet}
+use Rattle.places.specs.PlaceSets.{inSet}
 use Rattle.scan.specs.Arrays.{Lowest, idKeys, idKey}
-use Rattle.scan.proofs.Naming.{lent, indexed-more}
+use Rattle.places.proofs.Indexing.{indexed-more}
+use Rattle.scan.proofs.Naming.{lent}
 use borrow.Author.Needs.{needs}
 use Rattle.scan.proofs.names.name_place.Statement.{statement}
 use Rattle.scan.proofs.names.name_place.Tie as tie

@@ -1,8 +1,0 @@
--- What the calls on graph files answer.
-use mathlib.Core.List.{List}
-use Prim.Native.Nat.{ℕ}
-use Rattle.graph.specs.File.{answerOf, answerNumber}
-
--- 0 where the file is accepted, or the number of the refusal
-abbrev pub checkGraph : List ℕ → ℕ
-checkGraph s = answerNumber (answerOf s)

@@ -1,0 +1,17 @@
+// Which ballots decide for a learner: a ballot decides where the known 2as of it that count for the learner come from a quorum of the learner. Asked of
+// the notes of the places of a round (crate notes).
+pub mod report;
+
+// The least of some ballots, if there is one.
+pub struct Least {
+    pub found: bool,
+    pub ballot: u64,
+}
+
+// What a report says: no ballot decides; all that decide carry one value, and this is the least; or they carry several, and these are the least
+// and the least of another value than that one's.
+pub enum Verdict {
+    Undecided,
+    Decided(u64),
+    Split(u64, u64),
+}

@@ -1,2 +1,0 @@
--- What the sample files answer
-pub mod Cases

@@ -1,2 +1,0 @@
--- Sample files
-pub mod Cases

@@ -1,0 +1,98 @@
+-- How a file's lists are held in memory, and what `read` answers.
+use mathlib.Core.List.{List, [], _∷_}
+use Prim.Native.Nat.{ℕ, suc, _*_, _≤_}
+use mathlib.Core.Path.{_≡_}
+use lib.ListN.{length, getD, set, replicate}
+use Rattle.base.specs.Bytes.{putAt}
+use Rattle.graph.specs.declared.Answer.{Answer}
+use Rattle.graph.specs.declared.Answer.the-variants.{Accepted, Refused}
+use Rattle.graph.specs.declared.Graph.{Graph}
+use Rattle.graph.specs.Limits.{maxAcceptors, maxLearners, maxMasks, lists}
+use Rattle.graph.specs.Held.{pairList}
+use Rattle.graph.specs.Answers.{graphAnswer}
+use Rattle.graphfile.specs.declared.file.Field.{Field}
+use Rattle.graphfile.specs.declared.file.Field.the-variants as Field
+use Rattle.graphfile.specs.declared.Reading.{Reading}
+use Rattle.graphfile.specs.File.{Got, got, no, Contents, contents, readGraph, graphOf}
+
+-- ---- how they are put in
+pub record Held : Type 0 where
+  pub counts : List ℕ
+  pub masks : List ℕ
+
+-- a list put in as list k
+abbrev pub hold : ℕ → List ℕ → Held → Held
+hold k l h = record { counts = set (h .counts) k (length l); masks = putAt (h .masks) (maxMasks * k) l }
+
+-- lists put in as the lists f i, f (i + 1) and so on
+unfoldable pub holdAll : (ℕ → ℕ) → ℕ → List (List ℕ) → Held → Held
+holdAll f i [] h = h
+holdAll f i (l ∷ ls) h = holdAll f (suc i) ls (hold (f i) l h)
+
+-- the rows of safe lists from learner a on
+unfoldable pub holdRows : ℕ → List (List (List ℕ)) → Held → Held
+holdRows a [] h = h
+holdRows a (row ∷ rows) h = holdRows (suc a) rows (holdAll (pairList a) a row h)
+
+abbrev pub nothing : Held
+nothing = record { counts = replicate lists 0; masks = replicate (maxMasks * lists) 0 }
+
+-- the lists of a file put in: quorums, then safe lists
+abbrev pub heldIn : Held → Contents → Held
+heldIn h f = holdRows 0 (f .rows) (holdAll (λ a. a) 0 (f .quorums) h)
+
+unfoldable pub heldOf : Contents → Held
+heldOf f = heldIn nothing f
+
+abbrev pub graphOfHeld : ℕ → ℕ → Held → Graph
+graphOfHeld n l h = record { acceptors = n; learners = l; counts = h .counts; masks = h .masks }
+
+-- A refused file gives a graph of zeros.
+abbrev pub refusedReading : Answer → Reading
+refusedReading r = record { answer = r; graph = graphOfHeld 0 0 nothing }
+
+abbrev pub graphReading : Contents → Answer → Reading
+graphReading f Accepted = record { answer = Accepted; graph = graphOfHeld (f .acceptors) (f .learners) (heldOf f) }
+graphReading f (Refused r) = refusedReading (Refused r)
+
+-- "6 and 7 come last"
+abbrev pub contentsReading : Got Contents → Reading
+contentsReading (got f at) = graphReading f (graphAnswer (graphOf f))
+contentsReading (no r) = refusedReading (Refused r)
+
+-- What `read` answers.
+abbrev pub readingOf : List ℕ → Reading
+readingOf s = contentsReading (contents s)
+
+-- ---- what the steps of `read` answer
+-- rows 1 to 5 alone
+abbrev pub heldReading : Got Contents → Reading
+heldReading (got f at) = record { answer = Accepted; graph = graphOfHeld (f .acceptors) (f .learners) (heldOf f) }
+heldReading (no r) = refusedReading (Refused r)
+
+-- a graph that is accepted, or why it is not
+abbrev pub answeredReading : Graph → Answer → Reading
+answeredReading g Accepted = record { answer = Accepted; graph = g }
+answeredReading g (Refused r) = refusedReading (Refused r)
+
+-- what stands before the lists is in order, and the file is what the lists behind it are; or why the file is turned down there
+abbrev pub HeadOf : List ℕ → Answer → Type 0
+HeadOf s Accepted =
+    (length s ≤ 65537) × (5 ≤ length s) × (getD s 3 0 ≤ maxAcceptors) × (getD s 4 0 ≤ maxLearners)
+    × (contents s ≡ readGraph s (getD s 3 0) (getD s 4 0) 5)
+HeadOf s (Refused r) = contents s ≡ no r
+
+-- what was read
+abbrev pub fieldOf : Got ℕ → Field
+fieldOf (got x at) = Field.Is x
+fieldOf (no r) = Field.Refused r
+
+-- the masks of a list were put in from `first` on, and the place behind is the answer
+abbrev pub MasksHeld : Got (List ℕ) → Field → ℕ → List ℕ → List ℕ → Type 0
+MasksHeld (got l next) f first before after = (f ≡ Field.Is next) × (after ≡ putAt before first l)
+MasksHeld (no r) f first before after = f ≡ Field.Refused r
+
+-- what was read was put in, and the place behind is the answer
+abbrev pub HeldAfter : {A : Type 0} → Got A → (A → Held) → Field → Held → Type 0
+HeldAfter (got x next) put f after = (f ≡ Field.Is next) × (after ≡ put x)
+HeldAfter (no r) put f after = f ≡ Field.Refused r

@@ -1,0 +1,145 @@
+// The graph file of a site, read and checked: rows 1 to 5 on the way through its bytes, and rows 6 and 7 of the graph that it gives.
+use base::read16;
+use base::refusal::Refusal;
+use base::size;
+use file::Field;
+use file::read_count;
+use file::read_lists;
+use graph::Answer;
+use graph::Graph;
+use graph::LISTS;
+use graph::MAX_ACCEPTORS;
+use graph::MAX_LEARNERS;
+use graph::PLACES;
+use graph::graph_answer;
+
+mod file;
+
+ghost use mathlib.Core.Path.{_≡_};
+ghost use Prim.Native.Nat.{_≤_};
+ghost use lib.ListN.{length};
+ghost use Rattle.graph.specs.Limits.{maxAcceptors, maxLearners};
+ghost use Rattle.graph.specs.Answers.{graphAnswer};
+ghost use Rattle.graph.specs.Held.{viewOf};
+ghost use Rattle.graphfile.specs.File.{contents, answerOf, readGraph};
+ghost use Rattle.graphfile.specs.Held.{refusedReading, heldReading, answeredReading, readingOf, HeadOf};
+
+pub const VERSION: u8 = 1;
+
+pub const MASK_BYTES: usize = 2;
+
+pub struct Reading {
+    pub answer: Answer,
+    pub graph: Graph,
+}
+
+// A file that is turned down gives a graph of zeros.
+fn refused(r: Refusal) -> Reading
+    ensures { λ x. ⌜ x ≡ refusedReading (Answer.Refused r) ⌝ }
+{
+    let counts = [0u8; LISTS];
+    let masks = [0u32; PLACES];
+    let graph = Graph {
+        acceptors: 0,
+        learners: 0,
+        counts,
+        masks,
+    };
+    let answer = Answer::Refused(r);
+    Reading { answer, graph }
+}
+
+// What stands before the lists: the outer length, the version, and how many acceptors and learners there are.
+fn head(file: &[u8]) -> Answer
+    ensures { λ a. ⌜ HeadOf (now (file .entry)) a ⌝ }
+{
+    if file.len() < 2 {
+        return Answer::Refused(Refusal::Length);
+    }
+    if file.len() != 2 + read16(file, 0) {
+        return Answer::Refused(Refusal::Length);
+    }
+    if file.len() < 3 {
+        return Answer::Refused(Refusal::Length);
+    }
+    if file[2] != VERSION {
+        return Answer::Refused(Refusal::Version);
+    }
+    if let Field::Refused(r) = read_count(file, 3, 1, MAX_ACCEPTORS) {
+        return Answer::Refused(r);
+    }
+    if let Field::Refused(r) = read_count(file, 4, 1, MAX_LEARNERS) {
+        return Answer::Refused(r);
+    }
+    Answer::Accepted
+}
+
+// The lists, from byte 5 on, put into memory.
+fn held(file: &[u8], acceptors: u8, learners: u8) -> Reading
+    requires { ⌜ (length (now file) ≤ 65537) × ((5 ≤ length (now file)) × ((acceptors ≤ maxAcceptors) × (learners ≤ maxLearners))) ⌝ }
+    ensures { λ x. ⌜ x ≡ heldReading (readGraph (now (file .entry)) acceptors learners 5) ⌝ }
+{
+    let l = size(learners);
+    let mut counts = [0u8; LISTS];
+    let mut masks = [0u32; PLACES];
+    if let Field::Refused(r) = read_lists(file, acceptors, l, &mut counts, &mut masks) {
+        return refused(r);
+    }
+    let graph = Graph {
+        acceptors,
+        learners,
+        counts,
+        masks,
+    };
+    let answer = Answer::Accepted;
+    Reading { answer, graph }
+}
+
+// Any bytes, by rows 1 to 5 alone: the graph, which may be neither valid nor condensed, or why they are turned down, with a graph of zeros.
+pub fn read_contents(file: &[u8]) -> Reading
+    ensures { λ x. ⌜ x ≡ heldReading (contents (now (file .entry))) ⌝ }
+{
+    if let Answer::Refused(r) = head(file) {
+        return refused(r);
+    }
+    held(file, file[3], file[4])
+}
+
+// Rows 6 and 7: the graph, or why it is turned down.
+fn judged(graph: Graph) -> Reading
+    requires { ⌜ graph .learners ≤ maxLearners ⌝ }
+    ensures { λ x. ⌜ x ≡ answeredReading graph (graphAnswer (viewOf graph)) ⌝ }
+{
+    if let Answer::Refused(r) = graph_answer(
+        &graph.counts,
+        &graph.masks,
+        graph.acceptors,
+        size(graph.learners),
+    ) {
+        return refused(r);
+    }
+    let answer = Answer::Accepted;
+    Reading { answer, graph }
+}
+
+// Any bytes: the graph, or why they are turned down, with a graph of zeros.
+pub fn read(file: &[u8]) -> Reading
+    ensures { λ x. ⌜ x ≡ readingOf (now (file .entry)) ⌝ }
+{
+    let reading = read_contents(file);
+    let answer = reading.answer;
+    let graph = reading.graph;
+    match answer {
+        Answer::Accepted => judged(graph),
+        Answer::Refused(r) => refused(r),
+    }
+}
+
+// Any bytes: accepted, or why they are turned down.
+pub fn check(file: &[u8]) -> Answer
+    ensures { λ x. ⌜ x ≡ answerOf (now (file .entry)) ⌝ }
+{
+    let r = read(file);
+    let answer = r.answer;
+    answer
+}

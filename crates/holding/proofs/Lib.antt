@@ -1,0 +1,2 @@
+-- What a reply refers to, and its bytes
+pub mod Sender

@@ -1,0 +1,47 @@
+-- A set of places, of 0 to 127, as two words: bit j of the first is place j, bit j of the second place 64 + j.
+use mathlib.Core.Path.{_≡_}
+use mathlib.Core.Bool.{Bool, false, not, _&&_}
+use mathlib.Core.List.{List}
+use Prim.Native.Nat.{ℕ, _-_, _≤_, _<_}
+use lib.Dec.{T, eqb, ltb}
+use lib.ListN.{length, getD}
+use Rattle.base.specs.Tests.{pick, any, below}
+use Rattle.base.specs.Sets.{has}
+
+unfoldable pub inSet : ℕ → ℕ → ℕ → Bool
+inSet low high j = pick (ltb j 64) (has low j) (has high (j - 64))
+
+-- two sets have a place in common
+unfoldable pub meets : ℕ → ℕ → ℕ → ℕ → Bool
+meets low high low′ high′ = any (λ j. inSet low high j && inSet low′ high′ j) (below 128)
+
+-- no place below r is in the set
+abbrev pub NoneBelow : ℕ → ℕ → ℕ → Type 0
+NoneBelow low high r = (q : ℕ) → q < r → inSet low high q ≡ false
+
+-- r is the first place of the set, or n where none of the first n places is in it
+pub record First (n low high r : ℕ) : Type 0 where
+  pub bound : r ≤ n
+  pub none : NoneBelow low high r
+  pub member : r < n → T (inSet low high r)
+
+-- the second set is the first one without its first place
+abbrev pub Dropped : ℕ → ℕ → ℕ → ℕ → Type 0
+Dropped low high low′ high′ = (f : ℕ) → T (inSet low high f) → NoneBelow low high f → (q : ℕ) → inSet low′ high′ q ≡ (inSet low high q && not (eqb q f))
+
+-- ---- arrays over the places
+-- an array with an entry for each place
+abbrev pub Whole : List ℕ → Type 0
+Whole l = length l ≡ 128
+
+-- the set has each of the first n places that passes the test
+abbrev pub Covers : ℕ → (ℕ → Bool) → ℕ → ℕ → Type 0
+Covers n f low high = (j : ℕ) → j < n → T (f j) → T (inSet low high j)
+
+-- ---- the places by a key: the set of each key has each of the first n places with this key
+abbrev pub Indexed : ℕ → (ℕ → ℕ) → List ℕ → List ℕ → Type 0
+Indexed n key low high = (j : ℕ) → j < n → T (inSet (getD low (key j) 0) (getD high (key j) 0) j)
+
+-- no set of an index has lost a place
+abbrev pub Grown : List ℕ → List ℕ → List ℕ → List ℕ → Type 0
+Grown low high low′ high′ = (i q : ℕ) → q < 128 → T (inSet (getD low i 0) (getD high i 0) q) → T (inSet (getD low′ i 0) (getD high′ i 0) q)

@@ -1,9 +1,0 @@
-use Rattle.scan.proofs.Membership.{in-and}
-use Rattle.scan.proofs.sets.common.Statement.{statement}
-use Rattle.scan.proofs.sets.common.Tie as tie
-
-returns : tie.Need-returns
-returns c = let a = c .args in λ q l. in-and (a .low) (a .high) (a .other-low) (a .other-high) q
-
-pub common-spec : {M : Type 1} → statement M
-common-spec = tie.close (tie.spec returns)

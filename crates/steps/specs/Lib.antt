@@ -1,6 +1,0 @@
--- The tests of a round over its arrays, lent one by one
-pub mod Lent
--- The reply over what a round lends
-pub mod Sender
--- A row of the columns, put behind the others
-pub mod Row

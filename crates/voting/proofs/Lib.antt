@@ -1,0 +1,2 @@
+-- The two peaks answer Buried
+pub mod Burying

@@ -1,0 +1,2 @@
+-- The tests that the loops ask of each vote
+pub mod Votes
