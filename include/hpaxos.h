@@ -63,8 +63,8 @@ uint32_t hpaxos_open(const uint8_t *graph, size_t graph_len, uint16_t house, uin
    17: round_len < HPAXOS_ROUND_BYTES, a round that no table can be, or reply_len < HPAXOS_REPLY_BYTES, before all else.
    1 to 4: the bytes are no message, as hpaxos_read_message. Then
    8 another house or bay; 9 signer of an acceptor message not in the graph; 10 known already; 11 a reference not known;
-   12 previous message not referred to, a proposal, or of another signer; 13 no proposal beneath; 14 1b not well-formed;
-   15 2a not well-formed; 16 full. */
+   12 previous message not referred to, a proposal, or of another signer; 14 1b not well-formed; 15 2a not well-formed;
+   16 full. */
 uint32_t hpaxos_deliver(uint8_t *round, size_t round_len, const uint8_t *message, size_t message_len, uint8_t *reply, size_t reply_len);
 
 /* What is decided for a learner of the graph.

@@ -158,11 +158,6 @@ impl History {
         self.tran[m].iter().copied()
     }
 
-    /// Row 13.
-    pub fn has_proposal(&self, m: Place) -> bool {
-        self.tran(m).any(|y| self.is_proposal(y))
-    }
-
     /// Definition 9. "B(m): the largest ballot of a proposal in Tran(m)".
     fn define_ballot(&self, m: Place) -> u64 {
         self.tran(m)

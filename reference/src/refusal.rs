@@ -1,4 +1,5 @@
-//! Document 01, "When a call is turned down": the rows of its table.
+//! Document 01, "When a call is turned down": the rows of its table. 13 was struck
+//! (document 02, request 10) and is not used again.
 
 #[derive(Clone, Copy, Debug, PartialEq, Eq)]
 pub enum Refusal {
@@ -26,8 +27,6 @@ pub enum Refusal {
     Reference = 11,
     /// Previous message not referred to, a proposal, or of another signer.
     Previous = 12,
-    /// No proposal in Tran.
-    NoProposal = 13,
     /// 1b not well-formed.
     Malformed1b = 14,
     /// 2a not well-formed.
@@ -37,6 +36,9 @@ pub enum Refusal {
     /// A number, a buffer or a round that the call cannot take.
     Argument = 17,
 }
+
+/// The number of the row that was struck. No call answers it.
+pub const STRUCK: u32 = 13;
 
 impl Refusal {
     pub fn number(self) -> u32 {

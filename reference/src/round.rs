@@ -177,11 +177,8 @@ impl Round {
         Ok(())
     }
 
-    /// Rows 13 to 15, on what the message means.
+    /// Rows 14 and 15, on what the message means.
     fn check_meaning(&self, m: Place) -> Result<(), Refusal> {
-        if !self.history.has_proposal(m) {
-            return Err(Refusal::NoProposal);
-        }
         if self.history.is_1b(m) && !self.history.is_well_formed_1b(m) {
             return Err(Refusal::Malformed1b);
         }

@@ -59,6 +59,15 @@ impl Reached {
         }
     }
 
+    /// Prints how often a number was answered that no call may answer: one check,
+    /// which passes if it never was.
+    pub fn never(&self, group: &str, which: &str, number: u32, tally: &mut Tally) {
+        let answers: u64 = self.counts.iter().sum();
+        let count = self.counts[number as usize];
+        println!("{group}: {which}: {number} answered {count} times among {answers} answers of 0 to 17");
+        tally.check(count == 0, || format!("{which}: {number} was answered {count} times"));
+    }
+
     /// Prints the counts; each of `wanted` counts as one check, which passes if
     /// the number was reached `least` times.
     pub fn line(&self, group: &str, call: &str, wanted: &[usize], least: u64, tally: &mut Tally) {

@@ -8,3 +8,5 @@ pub mod Sets
 pub mod Bytes
 -- Laws of lists cut into parts
 pub mod Cuts
+-- The number that no row has
+pub mod Refusals

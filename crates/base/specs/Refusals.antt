@@ -1,7 +1,8 @@
--- The table "When a call is turned down" of document 01: a name and a number for each row.
+-- The table "When a call is turned down" of document 01: a name and a number for each row. 13 was struck and is not used again.
+use mathlib.Core.Logic.{_≢_}
 use Prim.Native.Nat.{ℕ}
 use Rattle.base.specs.declared.refusal.Refusal.{Refusal}
-use Rattle.base.specs.declared.refusal.Refusal.the-variants.{Length, Version, Range, Order, Mask, NotValid, NotCondensed, OtherRound, Signer, Known, Reference, Previous, NoProposal, Malformed1b, Malformed2a, Full, Argument}
+use Rattle.base.specs.declared.refusal.Refusal.the-variants.{Length, Version, Range, Order, Mask, NotValid, NotCondensed, OtherRound, Signer, Known, Reference, Previous, Malformed1b, Malformed2a, Full, Argument}
 
 abbrev pub numberOf : Refusal → ℕ
 -- length wrong, bytes short or left over
@@ -28,8 +29,6 @@ numberOf Known = 10
 numberOf Reference = 11
 -- previous message not referred to, a proposal, or of another signer
 numberOf Previous = 12
--- no proposal in Tran
-numberOf NoProposal = 13
 -- 1b not well-formed
 numberOf Malformed1b = 14
 -- 2a not well-formed
@@ -38,3 +37,12 @@ numberOf Malformed2a = 15
 numberOf Full = 16
 -- learner or own acceptor number not in the graph, a lent buffer too short, a round handed in that no table can be
 numberOf Argument = 17
+
+-- ---- the number of the row that was struck: "no proposal in Tran". A proposal lies beneath every message whose references are known
+-- (round/specs/Demands), so no message was ever turned down by it.
+abbrev pub struck : ℕ
+struck = 13
+
+-- "do not use the number again"; proofs/Refusals proves it under the same name
+abbrev pub NumberUnused : Type 0
+NumberUnused = (e : Refusal) → numberOf e ≢ struck

@@ -1,4 +1,4 @@
-// Why a call is turned down: one name for each row of the table "When a call is turned down".
+// Why a call is turned down: one name for each row of the table "When a call is turned down". 13 was struck and is not used again.
 ghost use mathlib.Core.Path.{_≡_};
 ghost use Rattle.base.specs.Refusals.{numberOf};
 
@@ -15,7 +15,6 @@ pub enum Refusal {
     Known,
     Reference,
     Previous,
-    NoProposal,
     Malformed1b,
     Malformed2a,
     Full,
@@ -39,7 +38,6 @@ pub fn number(r: Refusal) -> u32
         Refusal::Known => 10,
         Refusal::Reference => 11,
         Refusal::Previous => 12,
-        Refusal::NoProposal => 13,
         Refusal::Malformed1b => 14,
         Refusal::Malformed2a => 15,
         Refusal::Full => 16,

@@ -1,4 +1,4 @@
--- A call on a round that is turned down leaves every lent byte as it was.
+-- A call on a round that is turned down leaves every lent byte as it was, and none answers the number of the row that was struck.
 use mathlib.Core.Path.{_≡_, refl, sym}
 use mathlib.Core.Logic.{_≢_}
 use mathlib.Core.Bool.{Bool, true, false}
@@ -7,7 +7,9 @@ use native.Mathlib.Omega.{arith}
 use lib.Dec.{ltb}
 use lib.ListN.{length}
 use Rattle.base.specs.Tests.{pick}
+use Rattle.base.specs.Refusals.{struck}
 use Rattle.base.specs.declared.refusal.Refusal.the-variants.{Argument}
+use Rattle.base.proofs.Refusals.{numberUnused}
 use Rattle.digest.specs.Sha256.{sha256}
 use Rattle.round.specs.Round.{Round}
 use Rattle.round.specs.declared.Opening.{Opening}
@@ -19,10 +21,12 @@ use Rattle.round.specs.declared.Report.the-variants as answer
 use Rattle.round.specs.Opening.{opened}
 use Rattle.round.specs.Delivery.{delivered, replied}
 use Rattle.round.proofs.OneCall.{refused-leaves-all}
+use Rattle.round.proofs.Struck.{alwaysGrounded, sameAcceptances}
 use Rattle.roundbytes.specs.Layout.{roundLen, roundIn}
 use Rattle.roundbytes.specs.Opening.{openedTo}
+use Rattle.roundbytes.proofs.Typing.{read-typed}
 use Rattle.engine.specs.Calls.{openAnswer, openTo, deliverAnswer, deliveredTo, deliverTo, replyTo, reportAnswer}
-use Rattle.capi.specs.Round.{seat, openNumber, deliverNumber, reportNumber, reportedTo, reportLen, OpenRefused, DeliverRefused, ReportRefused}
+use Rattle.capi.specs.Round.{seat, openNumber, deliverNumber, reportNumber, reportedTo, reportLen, OpenRefused, DeliverRefused, ReportRefused, StruckInBytes, StruckNeverAnswered}
 
 -- ---- opening
 pub openRefused : OpenRefused
@@ -59,3 +63,33 @@ reportRefused round learner buffer = go (ltb (length buffer) reportLen) (reportA
     go false (answer.Decided x) k = absurd (k refl)
     go false (answer.Split x y) k = absurd (k refl)
     go false (answer.Refused e) k = refl
+
+-- ---- row 13, which was struck
+pub struckInBytes : StruckInBytes
+struckInBytes round bytes long ok =
+    let r = roundIn round in
+    let typed = read-typed round bytes long in
+    (alwaysGrounded sha256 r typed ok, sameAcceptances sha256 r typed ok)
+
+pub struckNeverAnswered : StruckNeverAnswered
+struckNeverAnswered = (
+  λ file house bay acceptor buffer. opens (openAnswer file house bay (seat acceptor) buffer),
+  λ round message reply. delivers (deliverAnswer round message reply),
+  λ round learner buffer. reports (ltb (length buffer) reportLen) (reportAnswer round learner),
+)
+  where
+    opens : (a : Opening) → openNumber a ≢ struck
+    opens opening.Opened k = absurd (omega arith)
+    opens (opening.Refused e) k = numberUnused e k
+
+    delivers : (o : Outcome) → deliverNumber o ≢ struck
+    delivers outcome.Accepted k = absurd (omega arith)
+    delivers (outcome.Replied n) k = absurd (omega arith)
+    delivers (outcome.Refused e) k = numberUnused e k
+
+    reports : (t : Bool) (a : Report) → pick t 17 (reportNumber a) ≢ struck
+    reports true a k = absurd (omega arith)
+    reports false answer.Undecided k = absurd (omega arith)
+    reports false (answer.Decided x) k = absurd (omega arith)
+    reports false (answer.Split x y) k = absurd (omega arith)
+    reports false (answer.Refused e) k = numberUnused e k

@@ -4,11 +4,11 @@ use mathlib.Core.List.{List, [], _∷_, _++_}
 use mathlib.Core.Logic.{_≢_}
 use mathlib.Core.Path.{_≡_}
 use Prim.Native.Nat.{ℕ, _+_, _≤_, _<_}
-use lib.Dec.{ltb}
+use lib.Dec.{T, ltb}
 use lib.ListN.{length}
 use Rattle.base.specs.Tests.{pick}
 use Rattle.base.specs.Bytes.{bytes, Octets}
-use Rattle.base.specs.Refusals.{numberOf}
+use Rattle.base.specs.Refusals.{numberOf, struck}
 use Rattle.digest.specs.Sha256.{sha256}
 use Rattle.message.specs.Writer.{fronted}
 use Rattle.round.specs.Round.{Round}
@@ -19,8 +19,9 @@ use Rattle.round.specs.declared.Outcome.the-variants as outcome
 use Rattle.round.specs.declared.Report.{Report}
 use Rattle.round.specs.declared.Report.the-variants as answer
 use Rattle.round.specs.Limits.{listening}
+use Rattle.round.specs.Handed.{fits}
 use Rattle.round.specs.Lists.{Call, deliver, report, lastRound}
-use Rattle.round.specs.Demands.{Starts}
+use Rattle.round.specs.Demands.{Starts, GroundedIn, SameIn}
 use Rattle.roundbytes.specs.Layout.{roundLen, roundIn}
 use Rattle.engine.specs.Calls as call
 use Rattle.engine.specs.Calls.{deliverTo, replyTo}
@@ -80,7 +81,7 @@ reportAnswer round learner buffer = pick (ltb (length buffer) reportLen) 17 (rep
 abbrev pub reportTo : List ℕ → ℕ → List ℕ → List ℕ
 reportTo round learner buffer = pick (ltb (length buffer) reportLen) buffer (reportedTo (call.reportAnswer round learner) buffer)
 
--- ---- what holds of these calls; proofs/RoundCalls proves the first three under the same names, proofs/Keeping the last
+-- ---- what holds of these calls; proofs/RoundCalls proves the first five under the same names, proofs/Keeping the last
 -- "A call turned down writes to nothing that was lent."
 abbrev pub OpenRefused : Type 0
 OpenRefused = (file : List ℕ) (house bay acceptor : ℕ) (buffer : List ℕ)
@@ -92,6 +93,17 @@ DeliverRefused = (round message reply : List ℕ) → deliverAnswer round messag
 
 abbrev pub ReportRefused : Type 0
 ReportRefused = (round : List ℕ) (learner : ℕ) (buffer : List ℕ) → reportAnswer round learner buffer ≢ 0 → reportTo round learner buffer ≡ buffer
+
+-- why row 13 could be struck, whatever bytes are handed in as a round: where row 17 lets them pass, a proposal lies beneath each acceptor message whose
+-- references are known, and "growers see the same acceptances as before"
+abbrev pub StruckInBytes : Type 0
+StruckInBytes = (round : List ℕ) → Octets round → roundLen ≤ length round → T (fits (roundIn round)) → GroundedIn sha256 (roundIn round) × SameIn sha256 (roundIn round)
+
+-- "strike 13 from code and table, and do not use the number again": no call on a round answers it
+abbrev pub StruckNeverAnswered : Type 0
+StruckNeverAnswered = ((file : List ℕ) (house bay acceptor : ℕ) (buffer : List ℕ) → openAnswer file house bay acceptor buffer ≢ struck)
+    × ((round message reply : List ℕ) → deliverAnswer round message reply ≢ struck)
+    × ((round : List ℕ) (learner : ℕ) (buffer : List ℕ) → reportAnswer round learner buffer ≢ struck)
 
 -- ---- a list of calls on one buffer (round/specs/Lists): each call gets the bytes that the call before it left
 unfoldable pub bytesAfter : List ℕ → List Call → List ℕ

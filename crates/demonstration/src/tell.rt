@@ -118,7 +118,6 @@ fn words(r: Refusal) -> bool {
             1,
             b"previous message not referred to, a proposal, or of another signer",
         ),
-        Refusal::NoProposal => io::write_all(1, b"no proposal in Tran"),
         Refusal::Malformed1b => io::write_all(1, b"1b not well-formed"),
         Refusal::Malformed2a => io::write_all(1, b"2a not well-formed"),
         Refusal::Full => io::write_all(1, b"full"),

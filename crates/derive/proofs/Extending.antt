@@ -23,15 +23,15 @@ pub link-kept : (w b : List ℕ) (x : Notes) (r : Worked) (p at : ℕ) → notes
 link-kept w b x r p at e l = name-read b at l ∙ ap (λ (z : Notes). getD (z .names) at 0) e
 
 module _ (kinds signers : List ℕ) (x y : Notes) (r : Worked) (p link : ℕ) (rooms : Rooms x) (small : p < 128)
-    (filed : FiledIn (withNote x r p) y (getD kinds p 0) (getD signers p 0) link (r .ballot) (r .form) (not (eqb (r .forks .low) 0) || not (eqb (r .forks .high) 0)) p) where
+    (filed : FiledIn (withNote x r p) y (getD signers p 0) link (r .ballot) (r .form) (not (eqb (r .forks .low) 0) || not (eqb (r .forks .high) 0)) p) where
   -- the index has the place
-  pub marks-next : (previous : List ℕ) → link ≡ getD (x .names) (getD previous p 0) 0 → MarksIn p kinds signers previous x
-      → MarksIn (p + 1) kinds signers previous y
+  pub marks-next : (previous : List ℕ) → link ≡ getD (x .names) (getD previous p 0) 0 → MarksIn p signers previous x
+      → MarksIn (p + 1) signers previous y
   marks-next previous e old =
-      subst (MarksIn (p + 1) kinds signers previous) (sym (filed .rest))
-      (marks-more p kinds signers (x .names) previous (x .forklow) (x .forkhigh) (x .tops) (x .forms) (x .keylow) (x .keyhigh) (x .forkedlow) (x .forkedhigh) (omega arith) old small (rooms .tops) (rooms .forms)
+      subst (MarksIn (p + 1) signers previous) (sym (filed .rest))
+      (marks-more p signers (x .names) previous (x .forklow) (x .forkhigh) (x .tops) (x .forms) (x .keylow) (x .keyhigh) (x .forkedlow) (x .forkedhigh) (omega arith) old small (rooms .tops) (rooms .forms)
       (y .keylow) (y .keyhigh) (r .ballot) (r .form) (r .forks .low) (r .forks .high) (y .forkedlow) (y .forkedhigh)
-      (subst (λ (k : ℕ). Put (x .keylow) (x .keyhigh) (y .keylow) (y .keyhigh) (getD kinds p 0) (getD signers p 0) k (r .ballot) (r .form) p) e (filed .put))
+      (subst (λ (k : ℕ). Put (x .keylow) (x .keyhigh) (y .keylow) (y .keyhigh) (getD signers p 0) k (r .ballot) (r .form) p) e (filed .put))
       (marked-more (x .forklow) (x .forkhigh) (rooms .forklow) (rooms .forkhigh) p small (x .forkedlow) (x .forkedhigh) (old .forked) (r .forks .low) (r .forks .high) (y .forkedlow) (y .forkedhigh) (filed .forked)))
 
   -- its notes are right

@@ -9,17 +9,16 @@ use lib.Seq.{getD-set-other}
 use Rattle.notes.specs.Notes.{linkKey, Filed, Marks}
 
 -- the places before n name no previous place but one before n, so the name of n changes no link of theirs
-pub marks-named : (n : ℕ) (kinds signers names previous forkLow forkHigh tops forms keyLow keyHigh : List ℕ) (low high k : ℕ) → n ≤ 128
+pub marks-named : (n : ℕ) (signers names previous forkLow forkHigh tops forms keyLow keyHigh : List ℕ) (low high k : ℕ) → n ≤ 128
     → ((j : ℕ) → j < n → (getD previous j 0 ≡ 255) ⊎ (getD previous j 0 < n))
-    → Marks n kinds signers names previous forkLow forkHigh tops forms keyLow keyHigh low high
-    → Marks n kinds signers (set names n k) previous forkLow forkHigh tops forms keyLow keyHigh low high
-marks-named n kinds signers names previous forkLow forkHigh tops forms keyLow keyHigh low high k few before m =
+    → Marks n signers names previous forkLow forkHigh tops forms keyLow keyHigh low high
+    → Marks n signers (set names n k) previous forkLow forkHigh tops forms keyLow keyHigh low high
+marks-named n signers names previous forkLow forkHigh tops forms keyLow keyHigh low high k few before m =
     record {
       bySigner = m .bySigner;
       byLink = λ j l. subst (λ (x : ℕ). Filed keyLow keyHigh (linkKey x) j) (sym (getD-set-other names n (getD previous j 0) k 0 (apart j l))) (m .byLink j l);
       byBallot = m .byBallot;
       byForm = m .byForm;
-      byKind = m .byKind;
       forked = m .forked;
       keyLowFit = m .keyLowFit;
       keyHighFit = m .keyHighFit;

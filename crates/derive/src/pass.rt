@@ -13,7 +13,6 @@ use notes::LEARNERS_AT;
 use notes::Note;
 use notes::TOPS_AT;
 use notes::Worked;
-use notes::index::OFFERS;
 use notes::index::backers_of;
 use notes::index::ballot_key;
 use notes::index::mark;
@@ -22,7 +21,6 @@ use notes::step::step_in;
 use places::Places;
 use places::sets::with_place;
 use scan::beneath::is_crowded;
-use scan::beneath::is_grounded;
 use scan::beneath::under;
 use scan::names::name_of;
 use scan::names::name_places;
@@ -59,7 +57,7 @@ fn note_held<'a>(
     p: usize,
 ) -> Worked
     requires { ⌜ (p < n) × (Given acceptors l n (now lists) (now masks) (now kinds) (now signers) (now ballots) (now previous) (now counts) (now references)
-        × (Lent (now words) (now octets) × MarksIn p (now kinds) (now signers) (now previous) (notesIn (now words) (now octets)))) ⌝ }
+        × (Lent (now words) (now octets) × MarksIn p (now signers) (now previous) (notesIn (now words) (now octets)))) ⌝ }
     ensures { λ r. ⌜ ((ids : List ℕ) → Named ids n (notesIn (now (words .entry)) (now (octets .entry)) .names)
         → KnownIn (heldGraph acceptors l (now (lists .entry)) (now (masks .entry))) (tableIn ids (now (kinds .entry)) (now (signers .entry)) (now (ballots .entry)) (now (previous .entry)) (now (counts .entry)) (now (references .entry)) p) (now (kinds .entry)) (now (signers .entry)) (notesIn (now (words .entry)) (now (octets .entry)))
         → NotedBy (heldGraph acceptors l (now (lists .entry)) (now (masks .entry))) (tableIn ids (now (kinds .entry)) (now (signers .entry)) (now (ballots .entry)) (now (previous .entry)) (now (counts .entry)) (now (references .entry)) (suc p)) p r) ⌝ }
@@ -129,22 +127,12 @@ fn note_down(words: &mut [u64], octets: &mut [u8], r: Worked, p: usize)
 }
 
 // Place p is put into the sets of its keys, and among the places that fork with one before them where it does.
-fn file_place(
-    words: &mut [u64],
-    kind: u8,
-    signer: u8,
-    link: u8,
-    ballot: u64,
-    form: u8,
-    forks: bool,
-    p: usize,
-)
+fn file_place(words: &mut [u64], signer: u8, link: u8, ballot: u64, form: u8, forks: bool, p: usize)
     requires { ⌜ (p < 128) × (length (now words) ≡ wordsLen) ⌝ }
-    ensures { λ _. ⌜ ((b : List ℕ) → FiledIn (notesIn (now (words .entry)) b) (notesIn (now (words .exit)) b) kind signer link ballot form forks p) ⌝ }
+    ensures { λ _. ⌜ ((b : List ℕ) → FiledIn (notesIn (now (words .entry)) b) (notesIn (now (words .exit)) b) signer link ballot form forks p) ⌝ }
 {
     mark(
         &mut words[KEY_LOW_AT..FORKED_AT],
-        kind,
         signer,
         link,
         ballot,
@@ -174,7 +162,7 @@ pub fn extended<'a>(
     n: usize,
 )
     requires { ⌜ (from ≤ n) × (Given acceptors l n (now lists) (now masks) (now kinds) (now signers) (now ballots) (now previous) (now counts) (now references)
-        × (Lent (now words) (now octets) × MarksIn from (now kinds) (now signers) (now previous) (notesIn (now words) (now octets)))) ⌝ }
+        × (Lent (now words) (now octets) × MarksIn from (now signers) (now previous) (notesIn (now words) (now octets)))) ⌝ }
     ensures { λ _. ⌜ Extended (heldGraph acceptors l (now (lists .entry)) (now (masks .entry))) (now (kinds .entry)) (now (signers .entry)) (now (ballots .entry)) (now (previous .entry)) (now (counts .entry)) (now (references .entry)) n from n (notesIn (now (words .entry)) (now (octets .entry))) (notesIn (now (words .exit)) (now (octets .exit))) ⌝ }
 {
     let mut p: usize = from;
@@ -200,16 +188,7 @@ pub fn extended<'a>(
         let forks = (f.low != 0) | (f.high != 0);
         let at = size(previous[p]);
         let link = octets[at];
-        file_place(
-            words,
-            kinds[p],
-            signers[p],
-            link,
-            r.ballot,
-            r.form,
-            forks,
-            p,
-        );
+        file_place(words, signers[p], link, r.ballot, r.form, forks, p);
         p += 1;
     }
 }
@@ -292,21 +271,18 @@ pub fn note_new<'a>(
 ) -> Note
     requires { ⌜ (length (now ids) ≡ 4096) × (Ready acceptors l n (now lists) (now masks) (now kinds) (now signers) (now names) (now previous) (now low) (now high) (now forklow) (now forkhigh) (now tops) (now learners) (now fresh) (now forms) (now places)
         × ((length (now idlow) ≡ idKeys) × ((length (now idhigh) ≡ idKeys) × (IdsIndexed (now ids) n (now idlow) (now idhigh)
-        × Marks n (now kinds) (now signers) (now names) (now previous) (now forklow) (now forkhigh) (now tops) (now forms) (now keylow) (now keyhigh) (forked .low) (forked .high))))) ⌝ }
+        × Marks n (now signers) (now names) (now previous) (now forklow) (now forkhigh) (now tops) (now forms) (now keylow) (now keyhigh) (forked .low) (forked .high))))) ⌝ }
     ensures { λ r. ⌜ ((ballots counts references : List ℕ) → Fit n (now (kinds .entry)) (now (previous .entry)) counts references → Named (now (ids .entry)) n (now (names .entry))
         → (prev ≡ 255) ⊎ (prev < n) → ((j : ℕ) → j ∈ (now (places .entry)) → j < n)
         → Known (heldGraph acceptors l (now (lists .entry)) (now (masks .entry))) (tableIn (now (ids .entry)) (now (kinds .entry)) (now (signers .entry)) ballots (now (previous .entry)) counts references n) (now (kinds .entry)) (now (signers .entry)) (now (low .entry)) (now (high .entry)) (now (forklow .entry)) (now (forkhigh .entry)) (now (tops .entry)) (now (learners .entry)) (now (fresh .entry)) (now (forms .entry))
         → Judged (heldGraph acceptors l (now (lists .entry)) (now (masks .entry))) (nodeBy (tree (tableIn (now (ids .entry)) (now (kinds .entry)) (now (signers .entry)) ballots (now (previous .entry)) counts references n)) (says (now (id .entry)) signer (namedIn (now (ids .entry)) prev) (now (places .entry)))) r) ⌝ }
 {
     let u = under(low, high, tops, kinds, places);
-    let offers = within(keylow, keyhigh, OFFERS, u.low, u.high);
-    let grounded = is_grounded(kinds, n, u.low, u.high, offers);
     if u.offered {
         let name = name_of(ids, n, id, idlow, idhigh) as u8;
         let peers = within(keylow, keyhigh, ballot_key(u.ballot), u.low, u.high);
         let crowded = is_crowded(kinds, names, tops, n, u.low, u.high, name, u.ballot, peers);
         return Note {
-            grounded,
             formed1b: !crowded,
             formed2a: true,
         };
@@ -328,7 +304,6 @@ pub fn note_new<'a>(
         backers,
     );
     Note {
-        grounded,
         formed1b: true,
         formed2a: learned != 0,
     }

@@ -18,7 +18,7 @@ use Rattle.protocol.proofs.Growth.{length-tabulate}
 use Rattle.places.specs.PlaceSets.{inSet}
 use Rattle.scan.specs.Arrays.{Named, Lowest, idKeys, IdsIndexed, idIn}
 use Rattle.notes.specs.Lent.{Notes, notesIn}
-use Rattle.notes.specs.Notes.{Known, Marks, Filed, signerKey, linkKey, kindKey}
+use Rattle.notes.specs.Notes.{Known, Marks, Filed, signerKey, linkKey}
 use Rattle.notes.specs.Records.{tableIn, Fit}
 use Rattle.round.specs.Round.{Round}
 use Rattle.round.specs.Held.{graphOf, recordAt}
@@ -54,15 +54,14 @@ module _ (r s : Round) (keeps : Keeps r s) where
       subst (λ (k : ℕ). T (inSet (getD low (k % idKeys) 0) (getD high (k % idKeys) 0) j)) (sym e) (h j l)
 
   marks-kept : (x : Notes)
-      → Marks (r .held) (r .kinds) (r .signers) (x .names) (r .previous) (x .forklow) (x .forkhigh) (x .tops) (x .forms) (x .keylow) (x .keyhigh) (x .forkedlow) (x .forkedhigh)
-      → Marks (r .held) (s .kinds) (s .signers) (x .names) (s .previous) (x .forklow) (x .forkhigh) (x .tops) (x .forms) (x .keylow) (x .keyhigh) (x .forkedlow) (x .forkedhigh)
+      → Marks (r .held) (r .signers) (x .names) (r .previous) (x .forklow) (x .forkhigh) (x .tops) (x .forms) (x .keylow) (x .keyhigh) (x .forkedlow) (x .forkedhigh)
+      → Marks (r .held) (s .signers) (x .names) (s .previous) (x .forklow) (x .forkhigh) (x .tops) (x .forms) (x .keylow) (x .keyhigh) (x .forkedlow) (x .forkedhigh)
   marks-kept x h =
       record {
         bySigner = λ j l. subst (λ (k : ℕ). Filed (x .keylow) (x .keyhigh) (signerKey k) j) (sym (keeps .signers j l)) (h .bySigner j l);
         byLink = λ j l. subst (λ (k : ℕ). Filed (x .keylow) (x .keyhigh) (linkKey (getD (x .names) k 0)) j) (sym (keeps .previous j l)) (h .byLink j l);
         byBallot = h .byBallot;
         byForm = h .byForm;
-        byKind = λ j l. subst (λ (k : ℕ). Filed (x .keylow) (x .keyhigh) (kindKey k) j) (sym (keeps .kinds j l)) (h .byKind j l);
         forked = h .forked;
         keyLowFit = h .keyLowFit;
         keyHighFit = h .keyHighFit;

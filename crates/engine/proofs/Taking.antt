@@ -56,7 +56,7 @@ module _ (H : List ℕ → Id) (r : Round) (i : Id) (h : Held) (o : Option Refus
 
 -- ---- an acceptor message, where rows 8 to 12 are clear and l are the places that it refers to
 module _ (r : Round) (i : Id) (b : List ℕ) (m : AcceptorMessage) (l : List ℕ) where
-  -- it is taken as rows 13 to 16 decide
+  -- it is taken as rows 14 to 16 decide
   pub taken-settled : (H : List ℕ → Id) (x : Delivered) (before after : List ℕ) (y z : Row) → y ≡ rowOf (heads r i b m) → y ≡ Clear → z ≡ rowOf (chains r i b m) → z ≡ Clear → l ≡ placesTo r i b m
       → Gives (decidedBy H r i (recordTo r i b m l) (sounds r i b m l)) x before after → Gives (acceptorTaken H r i m (previousId b m) (referenceIds b m)) x before after
   taken-settled H x before after y z u h v k q g =

@@ -1,4 +1,4 @@
-// An acceptor message that passed rows 8 to 12: refused by the first of rows 13 to 16 that applies, or else entered. The round stands in the bytes s.
+// An acceptor message that passed rows 8 to 12: refused by the first of rows 14 to 16 that applies, or else entered. The round stands in the bytes s.
 use crate::enter::enter_vote;
 use judging::meaning::notes_of;
 use judging::rows::sound_row;

@@ -13,7 +13,7 @@ use Rattle.message.specs.declared.AcceptorMessage.{AcceptorMessage}
 use Rattle.protocol.specs.Ids.{Id}
 use Rattle.protocol.specs.Message.{Message}
 use Rattle.round.specs.Round.{Round}
-use Rattle.round.specs.Rows.{otherRound, foreign, isKnownId, lacks, unchained, ungrounded, acceptorRows, firstOf}
+use Rattle.round.specs.Rows.{otherRound, foreign, isKnownId, lacks, unchained, acceptorRows, firstOf}
 use Rattle.order.specs.declared.rows.Row.the-variants.{Clear, Applies}
 use Rattle.order.specs.Rows.{rowOf, headRow, chainRow}
 use Rattle.judging.specs.Turning.{soundRow}
@@ -30,7 +30,7 @@ orElse (some e) o = some e
 pub acceptor-row : (r : Round) (i : Id) (m : AcceptorMessage) (previous : Option Id) (ids : List Id) (tree : Message)
     → firstOf (acceptorRows r i m previous ids tree)
     ≡ orElse (headRow (otherRound r (m .house) (m .bay)) (foreign r (m .signer)) (isKnownId r i)) (orElse (chainRow (lacks r ids) (unchained r (m .signer) ids previous)) (soundRow r i tree))
-unfolding acceptorRows firstOf ungrounded
+unfolding acceptorRows firstOf
 acceptor-row r i m previous ids tree =
     head (otherRound r (m .house) (m .bay)) (foreign r (m .signer)) (isKnownId r i) _
     ∙ ap (orElse (headRow (otherRound r (m .house) (m .bay)) (foreign r (m .signer)) (isKnownId r i))) (chain (lacks r ids) (unchained r (m .signer) ids previous) (soundRow r i tree))

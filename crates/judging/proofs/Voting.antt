@@ -18,7 +18,7 @@ use Rattle.message.proofs.Checks.{of-acceptor}
 use Rattle.protocol.specs.Ids.{Id}
 use Rattle.protocol.specs.Message.{Message}
 use Rattle.protocol.specs.Table.{Held, says}
-use Rattle.protocol.specs.WellFormed.{hasProposal, formed1b, formed2a}
+use Rattle.protocol.specs.WellFormed.{formed1b, formed2a}
 use Rattle.notes.specs.declared.Note.{Note}
 use Rattle.notes.specs.Notes.{Judged}
 use Rattle.round.specs.Round.{Round}
@@ -65,22 +65,20 @@ module _ (b : List ℕ) (m : AcceptorMessage) (reads : reading b ≡ OfAcceptor 
 pub fewer : (k n : ℕ) (l : List ℕ) → k ≤ n → length l ≡ n → k ≤ length l
 fewer k n l h e = omega arith
 
--- where none of rows 13 to 16 applies, there is room
-pub form-free : (a b c l : Bool) → formRow a b c l ≡ none → T (not l)
-form-free true true true false e = tt
-form-free true true true true e = absurd (let z : _≡_ {A = ℕ} 0 1 = cc in omega arith)
-form-free true true false l e = absurd (let z : _≡_ {A = ℕ} 0 1 = cc in omega arith)
-form-free true false c l e = absurd (let z : _≡_ {A = ℕ} 0 1 = cc in omega arith)
-form-free false b c l e = absurd (let z : _≡_ {A = ℕ} 0 1 = cc in omega arith)
+-- where none of rows 14 to 16 applies, there is room
+pub form-free : (a b l : Bool) → formRow a b l ≡ none → T (not l)
+form-free true true false e = tt
+form-free true true true e = absurd (let z : _≡_ {A = ℕ} 0 1 = cc in omega arith)
+form-free true false l e = absurd (let z : _≡_ {A = ℕ} 0 1 = cc in omega arith)
+form-free false b l e = absurd (let z : _≡_ {A = ℕ} 0 1 = cc in omega arith)
 
 pub sound-free : (r : Round) (i : Id) (m : Message) → soundRow r i m ≡ none → T (not (full r i))
-sound-free r i m h = form-free (hasProposal m) (formed1b m) (formed2a (graphOf r) m) (full r i) h
+sound-free r i m h = form-free (formed1b m) (formed2a (graphOf r) m) (full r i) h
 
--- rows 13 to 16, from what was worked out
+-- rows 14 to 16, from what was worked out
 pub form-judged : (r : Round) (i : Id) (tree : Message) (x : Note) (l : Bool) → Judged (graphOf r) tree x → l ≡ full r i
-    → formRow (x .grounded) (x .formed1b) (x .formed2a) l ≡ soundRow r i tree
-unfolding hasProposal
-form-judged r i tree x l j e = λ k. formRow (j .grounded k) (j .formed1 k) (j .formed2 k) (e k)
+    → formRow (x .formed1b) (x .formed2a) l ≡ soundRow r i tree
+form-judged r i tree x l j e = λ k. formRow (j .formed1 k) (j .formed2 k) (e k)
 
 -- ---- rows 11 and 12 as they are worked out: n messages are held, and the references stand from `at` on
 module _ (r : Round) (b : List ℕ) (m : AcceptorMessage) (n at : ℕ) (same : n ≡ r .held) (first : at ≡ referencesAt (m .previous)) where

@@ -114,7 +114,7 @@ pub fn lacks_room<'a>(s: &'a [u8], id: &'a [u8]) -> bool
     is_full(s[HELD_AT], word16(s, OWN_AT), awaited)
 }
 
-// Rows 13 to 16 of an acceptor message, whose references are the first `count` of some places, and whose previous id stands in its bytes.
+// Rows 14 to 16 of an acceptor message, whose references are the first `count` of some places, and whose previous id stands in its bytes.
 pub fn sound_row<'a>(
     s: &'a [u8],
     masks: &'a [Mask],
@@ -134,5 +134,5 @@ pub fn sound_row<'a>(
     let at = previous_place(&s[IDS_AT..KINDS_AT], held, bytes, previous);
     let note = judge(s, masks, words, octets, id, &places[0..count], signer, at);
     let lacks = lacks_room(s, id);
-    order::rows::form_row(note.grounded, note.formed1b, note.formed2a, lacks)
+    order::rows::form_row(note.formed1b, note.formed2a, lacks)
 }

@@ -19,7 +19,7 @@ use Rattle.notes.specs.Lent.{Notes, Lent, notesIn, withNote, FiledIn, wi
 
 -- the parts of the two arrays: of the words the columns, the index of the ids, that of the places, and the forking places
 abbrev pub wordWidths : List ℕ
-wordWidths = 128 ∷ 128 ∷ 128 ∷ 128 ∷ 128 ∷ 64 ∷ 144 ∷ 2 ∷ []
+wordWidths = 128 ∷ 128 ∷ 128 ∷ 128 ∷ 128 ∷ 64 ∷ 136 ∷ 2 ∷ []
 
 abbrev pub octetWidths : List ℕ
 octetWidths = 256 ∷ 128 ∷ 128 ∷ 128 ∷ []
@@ -44,20 +44,20 @@ notesOf w b =
       forms = getD b 3 [];
       idlow = part 32 (getD w 5 []) 0;
       idhigh = part 32 (getD w 5 []) 32;
-      keylow = part 72 (getD w 6 []) 0;
-      keyhigh = part 72 (getD w 6 []) 72;
+      keylow = part 68 (getD w 6 []) 0;
+      keyhigh = part 68 (getD w 6 []) 68;
       forkedlow = getD (getD w 7 []) 0 0;
       forkedhigh = getD (getD w 7 []) 1 0;
     }
 
-pub of-parts : (w b : List ℕ) → length w ≡ 850 → notesOf (wordParts w) (octetParts b) ≡ notesIn w b
+pub of-parts : (w b : List ℕ) → length w ≡ 842 → notesOf (wordParts w) (octetParts b) ≡ notesIn w b
 of-parts w b h =
     let idlow = part-part 32 64 w 640 0 (omega arith) (omega arith) in
     let idhigh = part-part 32 64 w 640 32 (omega arith) (omega arith) in
-    let keylow = part-part 72 144 w 704 0 (omega arith) (omega arith) in
-    let keyhigh = part-part 72 144 w 704 72 (omega arith) (omega arith) in
-    let forkedlow = getD-part 2 w 848 0 (omega arith) in
-    let forkedhigh = getD-part 2 w 848 1 (omega arith) in
+    let keylow = part-part 68 136 w 704 0 (omega arith) (omega arith) in
+    let keyhigh = part-part 68 136 w 704 68 (omega arith) (omega arith) in
+    let forkedlow = getD-part 2 w 840 0 (omega arith) in
+    let forkedhigh = getD-part 2 w 840 1 (omega arith) in
     let x = notesIn w b in
     λ i.
     record {
@@ -79,7 +79,7 @@ of-parts w b h =
     }
 
 -- ---- what was worked out for place p, put down
-module _ (w b : List ℕ) (p : ℕ) (r : Worked) (lp : p < 128) (hw : length w ≡ 850) (hb : length b ≡ 640) where
+module _ (w b : List ℕ) (p : ℕ) (r : Worked) (lp : p < 128) (hw : length w ≡ 842) (hb : length b ≡ 640) where
   abbrev w₁ : List ℕ
   w₁ = set w p (r .beneath .low)
 
@@ -104,19 +104,19 @@ module _ (w b : List ℕ) (p : ℕ) (r : Worked) (lp : p < 128) (hw : length w �
   abbrev b₃ : List ℕ
   b₃ = set b₂ (512 + p) (r .form)
 
-  n₁ : length w₁ ≡ 850
+  n₁ : length w₁ ≡ 842
   n₁ = length-set w p (r .beneath .low) ∙ hw
 
-  n₂ : length w₂ ≡ 850
+  n₂ : length w₂ ≡ 842
   n₂ = length-set w₁ (128 + p) (r .beneath .high) ∙ n₁
 
-  n₃ : length w₃ ≡ 850
+  n₃ : length w₃ ≡ 842
   n₃ = length-set w₂ (256 + p) (r .forks .low) ∙ n₂
 
-  n₄ : length w₄ ≡ 850
+  n₄ : length w₄ ≡ 842
   n₄ = length-set w₃ (384 + p) (r .forks .high) ∙ n₃
 
-  n₅ : length w₅ ≡ 850
+  n₅ : length w₅ ≡ 842
   n₅ = length-set w₄ (512 + p) (r .ballot) ∙ n₄
 
   m₁ : length b₁ ≡ 640
@@ -125,7 +125,7 @@ module _ (w b : List ℕ) (p : ℕ) (r : Worked) (lp : p < 128) (hw : length w �
   m₂ : length b₂ ≡ 640
   m₂ = length-set b₁ (384 + p) (r .fresh) ∙ m₁
 
-  put-word : (s : List ℕ) (k x : ℕ) → length s ≡ 850 → p < getD wordWidths k 0 → 0 + start wordWidths k + getD wordWidths k 0 ≤ 850
+  put-word : (s : List ℕ) (k x : ℕ) → length s ≡ 842 → p < getD wordWidths k 0 → 0 + start wordWidths k + getD wordWidths k 0 ≤ 842
       → wordParts (set s (0 + start wordWidths k + p) x) ≡ oneInto (wordParts s) k p x
   put-word s k x h l q = cut-set wordWidths s 0 k p x l (omega arith)
 
@@ -151,82 +151,82 @@ module _ (w b : List ℕ) (p : ℕ) (r : Worked) (lp : p < 128) (hw : length w �
   noted = sym (of-parts w₅ b₃ n₅) ∙ ap₂ notesOf words-put octets-put ∙ ap (λ (x : Notes). withNote x r p) (of-parts w b hw)
 
 -- ---- another index and other forking places
-module _ (w b ks : List ℕ) (x y : ℕ) (hw : length w ≡ 850) (hk : length ks ≡ 144) where
+module _ (w b ks : List ℕ) (x y : ℕ) (hw : length w ≡ 842) (hk : length ks ≡ 136) where
   abbrev v : List ℕ
   v = putAt w 704 ks
 
-  nv : length v ≡ 850
+  nv : length v ≡ 842
   nv = length-put w ks 704 (omega arith) ∙ hw
 
-  nv₁ : length (set v 848 x) ≡ 850
-  nv₁ = length-set v 848 x ∙ nv
+  nv₁ : length (set v 840 x) ≡ 842
+  nv₁ = length-set v 840 x ∙ nv
 
-  nv₂ : length (set (set v 848 x) 849 y) ≡ 850
-  nv₂ = length-set (set v 848 x) 849 y ∙ nv₁
+  nv₂ : length (set (set v 840 x) 841 y) ≡ 842
+  nv₂ = length-set (set v 840 x) 841 y ∙ nv₁
 
   part-whole : putAt (getD (wordParts w) 6 []) 0 ks ≡ ks
   part-whole = putAt-whole (getD (wordParts w) 6 []) ks (cut-length wordWidths w 0 6 (omega arith) ∙ sym hk)
 
-  index-put : wordParts (set (set v 848 x) 849 y) ≡ oneInto (oneInto (set (wordParts w) 6 ks) 7 0 x) 7 1 y
+  index-put : wordParts (set (set v 840 x) 841 y) ≡ oneInto (oneInto (set (wordParts w) 6 ks) 7 0 x) 7 1 y
   index-put =
-      cut-set wordWidths (set v 848 x) 0 7 1 y (omega arith) (omega (arith, nv₁))
+      cut-set wordWidths (set v 840 x) 0 7 1 y (omega arith) (omega (arith, nv₁))
       ∙ ap (λ (l : List (List ℕ)). oneInto l 7 1 y) (cut-set wordWidths v 0 7 0 x (omega arith) (omega (arith, nv))
       ∙ ap (λ (l : List (List ℕ)). oneInto l 7 0 x) (cut-put wordWidths w ks 0 6 0 (omega arith) (omega arith) ∙ ap (set (wordParts w) 6) part-whole))
 
-  pub indexed : notesIn (set (set v 848 x) 849 y) b ≡ withIndex (notesIn w b) (part 72 ks 0) (part 72 ks 72) x y
+  pub indexed : notesIn (set (set v 840 x) 841 y) b ≡ withIndex (notesIn w b) (part 68 ks 0) (part 68 ks 68) x y
   indexed =
-      let l = part 2 w 848 in
-      let two : length l ≡ 2 = part-length 2 w 848 (omega arith) in
+      let l = part 2 w 840 in
+      let two : length l ≡ 2 = part-length 2 w 840 (omega arith) in
       let low : getD (set (set l 0 x) 1 y) 0 0 ≡ x = getD-set-other (set l 0 x) 1 0 y 0 (λ e. omega arith) ∙ getD-set-same l 0 x 0 (omega arith) in
       let high : getD (set (set l 0 x) 1 y) 1 0 ≡ y = getD-set-same (set l 0 x) 1 y 0 (omega (arith, length-set l 0 x)) in
-      sym (of-parts (set (set v 848 x) 849 y) b nv₂) ∙ ap (λ (l : List (List ℕ)). notesOf l (octetParts b)) index-put
-      ∙ ap₂ (withIndex (notesOf (wordParts w) (octetParts b)) (part 72 ks 0) (part 72 ks 72)) low high
-      ∙ ap (λ (z : Notes). withIndex z (part 72 ks 0) (part 72 ks 72) x y) (of-parts w b hw)
+      sym (of-parts (set (set v 840 x) 841 y) b nv₂) ∙ ap (λ (l : List (List ℕ)). notesOf l (octetParts b)) index-put
+      ∙ ap₂ (withIndex (notesOf (wordParts w) (octetParts b)) (part 68 ks 0) (part 68 ks 68)) low high
+      ∙ ap (λ (z : Notes). withIndex z (part 68 ks 0) (part 68 ks 68) x y) (of-parts w b hw)
 
 -- the words with the index's part back, and what file_place then leaves
-module _ (w ks : List ℕ) (hw : length w ≡ 850) (hk : length ks ≡ length (part 144 w 704)) where
+module _ (w ks : List ℕ) (hw : length w ≡ 842) (hk : length ks ≡ length (part 136 w 704)) where
   abbrev back : List ℕ
-  back = take 704 w ++ (ks ++ drop 144 (drop 704 w))
+  back = take 704 w ++ (ks ++ drop 136 (drop 704 w))
 
-  long : length ks ≡ 144
-  long = hk ∙ part-length 144 w 704 (omega arith)
+  long : length ks ≡ 136
+  long = hk ∙ part-length 136 w 704 (omega arith)
 
   back-put : back ≡ putAt w 704 ks
-  back-put = put-mid w ks 704 144 long
+  back-put = put-mid w ks 704 136 long
 
-  pub back-long : length back ≡ 850
+  pub back-long : length back ≡ 842
   back-long = ap length back-put ∙ length-put w ks 704 (omega (arith, long)) ∙ hw
 
-  forked-kept : (j : ℕ) → j < 2 → getD back (848 + j) 0 ≡ getD w (848 + j) 0
+  forked-kept : (j : ℕ) → j < 2 → getD back (840 + j) 0 ≡ getD w (840 + j) 0
   forked-kept j l =
-      sym (getD-part 2 back 848 j l)
-      ∙ ap (λ (v : List ℕ). getD (part 2 v 848) j 0) back-put
+      sym (getD-part 2 back 840 j l)
+      ∙ ap (λ (v : List ℕ). getD (part 2 v 840) j 0) back-put
       ∙ ap (λ (v : List (List ℕ)). getD (getD v 7 []) j 0) (cut-put wordWidths w ks 0 6 0 (omega (arith, long)) (omega arith))
-      ∙ getD-part 2 w 848 j l
+      ∙ getD-part 2 w 840 j l
 
-  then : (b : List ℕ) (x y : ℕ) → notesIn (set (set back 848 x) 849 y) b ≡ withIndex (notesIn w b) (part 72 ks 0) (part 72 ks 72) x y
-  then b x y = ap (λ (v : List ℕ). notesIn (set (set v 848 x) 849 y) b) back-put ∙ indexed w b ks x y hw long
+  then : (b : List ℕ) (x y : ℕ) → notesIn (set (set back 840 x) 841 y) b ≡ withIndex (notesIn w b) (part 68 ks 0) (part 68 ks 68) x y
+  then b x y = ap (λ (v : List ℕ). notesIn (set (set v 840 x) 841 y) b) back-put ∙ indexed w b ks x y hw long
 
-  pub filed : (b : List ℕ) (x y kind signer link ballot form p : ℕ) (forks : Bool)
-      → Put (part 72 (part 144 w 704) 0) (part 72 (part 144 w 704) 72) (part 72 ks 0) (part 72 ks 72) kind signer link ballot form p
-      → ((q : ℕ) → q < 128 → inSet x y q ≡ ((forks && eqb p q) || inSet (getD back 848 0) (getD back 849 0) q))
-      → FiledIn (notesIn w b) (notesIn (set (set back 848 x) 849 y) b) kind signer link ballot form forks p
-  filed b x y kind signer link ballot form p forks put more =
-      let low = part-part 72 144 w 704 0 (omega arith) (omega arith) in
-      let high = part-part 72 144 w 704 72 (omega arith) (omega arith) in
-      let step : FiledIn (notesIn w b) (withIndex (notesIn w b) (part 72 ks 0) (part 72 ks 72) x y) kind signer link ballot form forks p =
+  pub filed : (b : List ℕ) (x y signer link ballot form p : ℕ) (forks : Bool)
+      → Put (part 68 (part 136 w 704) 0) (part 68 (part 136 w 704) 68) (part 68 ks 0) (part 68 ks 68) signer link ballot form p
+      → ((q : ℕ) → q < 128 → inSet x y q ≡ ((forks && eqb p q) || inSet (getD back 840 0) (getD back 841 0) q))
+      → FiledIn (notesIn w b) (notesIn (set (set back 840 x) 841 y) b) signer link ballot form forks p
+  filed b x y signer link ballot form p forks put more =
+      let low = part-part 68 136 w 704 0 (omega arith) (omega arith) in
+      let high = part-part 68 136 w 704 68 (omega arith) (omega arith) in
+      let step : FiledIn (notesIn w b) (withIndex (notesIn w b) (part 68 ks 0) (part 68 ks 68) x y) signer link ballot form forks p =
       record {
-        put = transport (λ i. Put (low i) (high i) (part 72 ks 0) (part 72 ks 72) kind signer link ballot form p) put;
+        put = transport (λ i. Put (low i) (high i) (part 68 ks 0) (part 68 ks 68) signer link ballot form p) put;
         forked = λ q l. more q l ∙ ap₂ (λ (u v : ℕ). (forks && eqb p q) || inSet u v q) (forked-kept 0 (omega arith)) (forked-kept 1 (omega arith));
         rest = refl;
       } in
-      subst (λ (z : Notes). FiledIn (notesIn w b) z kind signer link ballot form forks p) (sym (then b x y)) step
+      subst (λ (z : Notes). FiledIn (notesIn w b) z signer link ballot form forks p) (sym (then b x y)) step
 
 -- ---- other names and another index of the ids
-module _ (w b ns ks : List ℕ) (hw : length w ≡ 850) (hb : length b ≡ 640) (hn : length ns ≡ 256) (hk : length ks ≡ 64) where
+module _ (w b ns ks : List ℕ) (hw : length w ≡ 842) (hb : length b ≡ 640) (hn : length ns ≡ 256) (hk : length ks ≡ 64) where
   pub renamed : notesIn (putAt w 640 ks) (putAt b 0 ns) ≡ withNames (notesIn w b) ns (part 32 ks 0) (part 32 ks 32)
   renamed =
-      let nv : length (putAt w 640 ks) ≡ 850 = length-put w ks 640 (omega arith) ∙ hw in
+      let nv : length (putAt w 640 ks) ≡ 842 = length-put w ks 640 (omega arith) ∙ hw in
       let ew : wordParts (putAt w 640 ks) ≡ set (wordParts w) 5 ks =
       cut-put wordWidths w ks 0 5 0 (omega arith) (omega arith)
       ∙ ap (set (wordParts w) 5) (putAt-whole (getD (wordParts w) 5 []) ks (cut-length wordWidths w 0 5 (omega arith) ∙ sym hk))

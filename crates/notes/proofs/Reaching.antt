@@ -13,13 +13,12 @@ use Rattle.base.specs.Tests.{_∈_, any, all, below}
 use Rattle.base.proofs.Tests.{any-out, any-cong, any-not-all, below-out}
 use Rattle.graph.specs.LearnerGraph.{LearnerGraph}
 use Rattle.protocol.specs.Ids.{Id, sameId}
-use Rattle.protocol.specs.Message.{Message, isProposal, tran, ballot}
+use Rattle.protocol.specs.Message.{ballot}
 use Rattle.protocol.specs.WellFormed.{formed1b, formed2a}
 use Rattle.protocol.specs.Table.{Held, says, Table, at, heldId, offered, places, Ordered, nodeBy, tree, reach}
 use Rattle.protocol.specs.Places.{is1bAt, is2aAt, ballotAt, formed1bAt, formed2aAt, lrnsAt}
-use Rattle.protocol.proofs.Table.{tree-proposal, reach-is, reach-le}
+use Rattle.protocol.proofs.Table.{reach-is, reach-le}
 use Rattle.protocol.proofs.Growth.{at-append, at-end, tree-append, reach-append, ordered-snoc}
-use Rattle.protocol.proofs.Loops.{any-beneath}
 use Rattle.protocol.proofs.Places.{is1b-at, is2a-at, ballotBy, ballot-at, formed1b-at}
 use Rattle.protocol.proofs.Places as law
 use Rattle.protocol.proofs.PlacesLearners.{formed2a-at}
@@ -133,23 +132,14 @@ module _ (t : Table) (kinds low high tops ps : List ℕ) (rd : Reached t kinds l
     unfolding places
     message-is = ap (tree u) (sym size) ∙ new-message t new (rd .ordered) back
 
-    -- a proposal beneath
-    grounded-told : any (λ j. inSet lo hi j && isOffer kinds j) (below n) ≡ any isProposal (tran (tree u n))
-    unfolding offered
-    grounded-told =
-        any-cong (λ j. inSet lo hi j && isOffer kinds j) (λ j. reach u n j && isProposal (tree u j)) (below n)
-        (λ j m. ap₂ _&&_ (beneath-told j (below-out n m)) (kind-is j (below-out n m) ∙ sym (tree-proposal u j)))
-        ∙ sym (any-beneath u ord n isProposal (subst (λ (x : Bool). T (not x)) (sym (tree-proposal u n ∙ ap offered at-new)) tt) n (omega arith))
-
     -- place j does not crowd it
     abbrev pub alone : ℕ → Bool
     alone j = not (reach u n j) || (sameId (heldId (at u j)) (heldId (at u n)) || not (eqb (ballotAt u j) (ballotAt u n)) || offered (at u j))
 
-    pub judged : (G : LearnerGraph) (grounded first second : Bool) → grounded ≡ any (λ j. inSet lo hi j && isOffer kinds j) (below n) → first ≡ formed1bAt u n → second ≡ formed2aAt u G n
-        → Judged G (nodeBy (tree t) new) (record { grounded = grounded; formed1b = first; formed2a = second })
-    judged G grounded first second hg h₁ h₂ =
+    pub judged : (G : LearnerGraph) (first second : Bool) → first ≡ formed1bAt u n → second ≡ formed2aAt u G n
+        → Judged G (nodeBy (tree t) new) (record { formed1b = first; formed2a = second })
+    judged G first second h₁ h₂ =
         record {
-          grounded = hg ∙ grounded-told ∙ ap (λ (m : Message). any isProposal (tran m)) message-is;
           formed1 = h₁ ∙ ap formed1b message-is;
           formed2 = h₂ ∙ ap (formed2a G) message-is;
         }
@@ -169,10 +159,9 @@ module _ (t : Table) (kinds low high tops ps : List ℕ) (rd : Reached t kinds l
               (λ e. beneath-told j l e && not (same j l e) && eqb (top-is j l e) (ballot-told e) && not (kind-is j l e))
               ∙ denied (reach u n j) (sameId (heldId (at u j)) (heldId (at u n))) (eqb (ballotAt u j) (ballotAt u n)) (offered (at u j))
 
-      pub first-judged : (crowded grounded : Bool) → crowded ≡ any (isCrowding kinds names tops lo hi name bal) (below n)
-          → grounded ≡ any (λ j. inSet lo hi j && isOffer kinds j) (below n) → o ≡ true
-          → Judged G (nodeBy (tree t) new) (record { grounded = grounded; formed1b = not crowded; formed2a = true })
-      first-judged crowded grounded hc hg one =
-          judged G grounded (not crowded) true hg
+      pub first-judged : (crowded : Bool) → crowded ≡ any (isCrowding kinds names tops lo hi name bal) (below n) → o ≡ true
+          → Judged G (nodeBy (tree t) new) (record { formed1b = not crowded; formed2a = true })
+      first-judged crowded hc one =
+          judged G (not crowded) true
           (ap not (hc ∙ crowded-told) ∙ not-not (all alone (below n)) ∙ sym (formed1b-at u ord n n (omega arith) ∙ ap (λ (z : Bool). not z || all alone (below n)) (first-told ∙ one)))
           (sym (formed2a-at u G n ∙ ap (λ (z : Bool). not z || any (lrnsAt u G n) (below (G .learners))) (second-told ∙ ap not one)))

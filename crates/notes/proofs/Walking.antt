@@ -16,7 +16,7 @@ use Rattle.scan.specs.Arrays.{isOffer, isFork, isCaught, isCrowding}
 use Rattle.voting.specs.Votes.{isVote, isRival, isBacker}
 use Rattle.places.proofs.Indexing.{indexed-more}
 use Rattle.notes.specs.declared.Walks.{Walks}
-use Rattle.notes.specs.Notes.{keys, signerKey, linkKey, ballotKey, formKey, kindKey, Filed, Marks, Marked, Put, Backing, Walked}
+use Rattle.notes.specs.Notes.{keys, signerKey, linkKey, ballotKey, formKey, Filed, Marks, Marked, Put, Backing, Walked}
 
 -- what two sets have, their common part has
 pub both : {x : Bool} (y z : Bool) → x ≡ (y && z) → T y → T z → T x
@@ -26,11 +26,11 @@ both y z e s t = subst T (sym e) (and-in y z s t)
 pub filed : (n : ℕ) (key : ℕ → ℕ) (l : List ℕ) (low high : List ℕ) (x j : ℕ) → Indexed n (λ j. key (getD l j 0)) low high → j < n → T (eqb (getD l j 0) x) → Filed low high (key x) j
 filed n key l low high x j index h t = subst (λ (y : ℕ). Filed low high (key y) j) (eqb→eq (getD l j 0) x t) (index j h)
 
-module _ (n : ℕ) (kinds signers names previous forkLow forkHigh tops forms keyLow keyHigh : List ℕ) (forkedLow forkedHigh : ℕ) (few : n ≤ 128)
-    (marks : Marks n kinds signers names previous forkLow forkHigh tops forms keyLow keyHigh forkedLow forkedHigh) where
+module _ (n : ℕ) (signers names previous forkLow forkHigh tops forms keyLow keyHigh : List ℕ) (forkedLow forkedHigh : ℕ) (few : n ≤ 128)
+    (marks : Marks n signers names previous forkLow forkHigh tops forms keyLow keyHigh forkedLow forkedHigh) where
   module _ (low high ballot signer link : ℕ) (r : Walks) (walked : Walked keyLow keyHigh forkedLow forkedHigh low high ballot signer link r) where
-    pub covers-forks : (name : ℕ) → Covers n (isFork kinds signers names previous signer name link) (r .forks .low) (r .forks .high)
-    covers-forks name j h t =
+    pub covers-forks : (kinds : List ℕ) (name : ℕ) → Covers n (isFork kinds signers names previous signer name link) (r .forks .low) (r .forks .high)
+    covers-forks kinds name j h t =
         let A = not (isOffer kinds j) in
         let B = eqb (getD signers j 0) signer in
         let C = not (eqb (getD names j 0) name) in
@@ -77,8 +77,8 @@ module _ (n : ℕ) (kinds signers names previous forkLow forkHigh tops forms key
 
   -- a walk over those of a set that are filed under a key
   module _ (low high k x y : ℕ) (within : (q : ℕ) → q < 128 → inSet x y q ≡ (inSet low high q && inSet (getD keyLow k 0) (getD keyHigh k 0) q)) where
-    pub covers-crowd : (name ballot : ℕ) → k ≡ ballotKey ballot → Covers n (isCrowding kinds names tops low high name ballot) x y
-    covers-crowd name ballot e j h t =
+    pub covers-crowd : (kinds : List ℕ) (name ballot : ℕ) → k ≡ ballotKey ballot → Covers n (isCrowding kinds names tops low high name ballot) x y
+    covers-crowd kinds name ballot e j h t =
         let A = inSet low high j in
         let B = not (eqb (getD names j 0) name) in
         let C = eqb (getD tops j 0) ballot in
@@ -86,16 +86,11 @@ module _ (n : ℕ) (kinds signers names previous forkLow forkHigh tops forms key
         both (inSet low high j) (inSet (getD keyLow k 0) (getD keyHigh k 0) j) (within j (omega arith)) (and-l A B (and-l (A && B) C w))
         (subst (λ (i : ℕ). Filed keyLow keyHigh i j) (sym e) (filed n ballotKey tops keyLow keyHigh ballot j (marks .byBallot) h (and-r (A && B) C w)))
 
-    pub covers-offers : k ≡ kindKey 1 → Covers n (λ j. inSet low high j && isOffer kinds j) x y
-    covers-offers e j h t =
-        both (inSet low high j) (inSet (getD keyLow k 0) (getD keyHigh k 0) j) (within j (omega arith)) (and-l (inSet low high j) (isOffer kinds j) t)
-        (subst (λ (i : ℕ). Filed keyLow keyHigh i j) (sym e) (filed n kindKey kinds keyLow keyHigh 1 j (marks .byKind) h (and-r (inSet low high j) (isOffer kinds j) t)))
-
   -- one more place, put into the sets of its keys
   pub marks-more : n < 128 → Whole tops → Whole forms → (keyLow′ keyHigh′ : List ℕ) (ballot form fl fh low′ high′ : ℕ)
-      → Put keyLow keyHigh keyLow′ keyHigh′ (getD kinds n 0) (getD signers n 0) (getD names (getD previous n 0) 0) ballot form n
+      → Put keyLow keyHigh keyLow′ keyHigh′ (getD signers n 0) (getD names (getD previous n 0) 0) ballot form n
       → Marked (n + 1) (set forkLow n fl) (set forkHigh n fh) low′ high′
-      → Marks (n + 1) kinds signers names previous (set forkLow n fl) (set forkHigh n fh) (set tops n ballot) (set forms n form) keyLow′ keyHigh′ low′ high′
+      → Marks (n + 1) signers names previous (set forkLow n fl) (set forkHigh n fh) (set tops n ballot) (set forms n form) keyLow′ keyHigh′ low′ high′
   marks-more h wt wf keyLow′ keyHigh′ ballot form fl fh low′ high′ put marked =
       record {
         bySigner = indexed-more n (λ j. signerKey (getD signers j 0)) (λ j. signerKey (getD signers j 0)) keyLow keyHigh keyLow′ keyHigh′ h (put .grown) (λ j l. refl) (marks .bySigner) (put .ofSigner);
@@ -106,21 +101,19 @@ module _ (n : ℕ) (kinds signers names previous forkLow forkHigh tops forms key
         byForm = indexed-more n (λ j. formKey (getD forms j 0)) (λ j. formKey (getD (set forms n form) j 0)) keyLow keyHigh keyLow′ keyHigh′ h (put .grown)
             (λ j l. ap formKey (getD-set-other forms n j form 0 (λ e. omega arith))) (marks .byForm)
             (subst (λ (y : ℕ). Filed keyLow′ keyHigh′ (formKey y) n) (sym (getD-set-same forms n form 0 (omega arith))) (put .ofForm));
-        byKind = indexed-more n (λ j. kindKey (getD kinds j 0)) (λ j. kindKey (getD kinds j 0)) keyLow keyHigh keyLow′ keyHigh′ h (put .grown) (λ j l. refl) (marks .byKind) (put .ofKind);
         forked = marked;
         keyLowFit = put .lowKept;
         keyHighFit = put .highKept;
       }
 
-pub marks-none : (kinds signers names previous forkLow forkHigh tops forms keyLow keyHigh : List ℕ) (low high : ℕ) → length keyLow ≡ keys → length keyHigh ≡ keys
-    → Marks 0 kinds signers names previous forkLow forkHigh tops forms keyLow keyHigh low high
-marks-none kinds signers names previous forkLow forkHigh tops forms keyLow keyHigh low high l h =
+pub marks-none : (signers names previous forkLow forkHigh tops forms keyLow keyHigh : List ℕ) (low high : ℕ) → length keyLow ≡ keys → length keyHigh ≡ keys
+    → Marks 0 signers names previous forkLow forkHigh tops forms keyLow keyHigh low high
+marks-none signers names previous forkLow forkHigh tops forms keyLow keyHigh low high l h =
     record {
       bySigner = λ j i. absurd (omega arith);
       byLink = λ j i. absurd (omega arith);
       byBallot = λ j i. absurd (omega arith);
       byForm = λ j i. absurd (omega arith);
-      byKind = λ j i. absurd (omega arith);
       forked = λ j k i m t. absurd (omega arith);
       keyLowFit = l;
       keyHighFit = h;

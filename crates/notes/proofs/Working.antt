@@ -348,10 +348,9 @@ module _ (G : LearnerGraph) (t : Table) (kinds signers low high forkLow forkHigh
               let k : T (has mask a) = subst T (sym (learning-told mask (G .learners) all-asked hl a (below-out (G .learners) m))) q in
               not-T (eqb mask 0) (λ e. subst T (has-zero a) (subst (λ (x : ℕ). T (has x a)) (eqb→eq mask 0 e) k))
 
-      pub second-judged : (grounded : Bool) → grounded ≡ any (λ j. inSet lo hi j && isOffer kinds j) (below n)
-          → Judged G (nodeBy (tree t) new) (record { grounded = grounded; formed1b = true; formed2a = not (eqb mask 0) })
-      second-judged grounded hg =
-          reaching.judged t kinds low high tops ps rd id sig prev n size small back lo hi bal o bt G grounded true (not (eqb mask 0)) hg (sym (formed1b-at u ord n n (omega arith) ∙ ap (λ (z : Bool). not z || all alone (below n)) (first-told ∙ two)))
+      pub second-judged : Judged G (nodeBy (tree t) new) (record { formed1b = true; formed2a = not (eqb mask 0) })
+      second-judged =
+          reaching.judged t kinds low high tops ps rd id sig prev n size small back lo hi bal o bt G true (not (eqb mask 0)) (sym (formed1b-at u ord n n (omega arith) ∙ ap (λ (z : Bool). not z || all alone (below n)) (first-told ∙ two)))
           (learners-told ∙ sym (formed2a-at u G n ∙ ap (λ (z : Bool). not z || any (lrnsAt u G n) (below (G .learners))) (second-told ∙ ap not two)))
 
     -- ---- a message that a name and a link tell from those held
@@ -530,7 +529,6 @@ module _ (G : LearnerGraph) (t : Table) (kinds signers low high forkLow forkHigh
           seconds-form false = refl
 
       -- a 1b: whether another message crowds it
-      pub first-judged : (crowded grounded : Bool) → crowded ≡ any (isCrowding kinds names tops lo hi name bal) (below n)
-          → grounded ≡ any (λ j. inSet lo hi j && isOffer kinds j) (below n) → o ≡ true
-          → Judged G (nodeBy (tree t) new) (record { grounded = grounded; formed1b = not crowded; formed2a = true })
-      first-judged crowded grounded hc hg one = reaching.first-judged t kinds low high tops ps rd id sig prev n size small back lo hi bal o bt G names name (λ j l. id-is j l) crowded grounded hc hg one
+      pub first-judged : (crowded : Bool) → crowded ≡ any (isCrowding kinds names tops lo hi name bal) (below n) → o ≡ true
+          → Judged G (nodeBy (tree t) new) (record { formed1b = not crowded; formed2a = true })
+      first-judged crowded hc one = reaching.first-judged t kinds low high tops ps rd id sig prev n size small back lo hi bal o bt G names name (λ j l. id-is j l) crowded hc one

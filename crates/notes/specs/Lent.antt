@@ -34,7 +34,7 @@ pub record Notes : Type 0 where
 
 -- ---- arrays that have room for them
 abbrev pub wordsLen : ℕ
-wordsLen = 850
+wordsLen = 842
 
 abbrev pub octetsLen : ℕ
 octetsLen = 640
@@ -58,17 +58,17 @@ notesIn w b =
       idlow = part idKeys w 640;
       idhigh = part idKeys w 672;
       keylow = part keys w 704;
-      keyhigh = part keys w 776;
-      forkedlow = getD w 848 0;
-      forkedhigh = getD w 849 0;
+      keyhigh = part keys w 772;
+      forkedlow = getD w 840 0;
+      forkedhigh = getD w 841 0;
     }
 
 -- ---- what is said of them: the notes are right, the index has the places, and numbers and lengths are in range
 abbrev pub KnownIn : LearnerGraph → Table → List ℕ → List ℕ → Notes → Type 0
 KnownIn G t kinds signers x = Known G t kinds signers (x .low) (x .high) (x .forklow) (x .forkhigh) (x .tops) (x .learners) (x .fresh) (x .forms)
 
-abbrev pub MarksIn : ℕ → List ℕ → List ℕ → List ℕ → Notes → Type 0
-MarksIn n kinds signers previous x = Marks n kinds signers (x .names) previous (x .forklow) (x .forkhigh) (x .tops) (x .forms) (x .keylow) (x .keyhigh) (x .forkedlow) (x .forkedhigh)
+abbrev pub MarksIn : ℕ → List ℕ → List ℕ → Notes → Type 0
+MarksIn n signers previous x = Marks n signers (x .names) previous (x .forklow) (x .forkhigh) (x .tops) (x .forms) (x .keylow) (x .keyhigh) (x .forkedlow) (x .forkedhigh)
 
 abbrev pub ReadyIn : ℕ → ℕ → ℕ → List ℕ → List ℕ → List ℕ → List ℕ → List ℕ → List ℕ → Notes → Type 0
 ReadyIn acceptors l n lists masks kinds signers previous places x =
@@ -117,8 +117,8 @@ withIndex x keylow keyhigh forkedlow forkedhigh =
     }
 
 -- place p is put into the sets of its keys, and among the forking places where it is one; nothing else of the notes x is another in y
-pub record FiledIn (x y : Notes) (kind signer link ballot form : ℕ) (forks : Bool) (p : ℕ) : Type 0 where
-  pub put : Put (x .keylow) (x .keyhigh) (y .keylow) (y .keyhigh) kind signer link ballot form p
+pub record FiledIn (x y : Notes) (signer link ballot form : ℕ) (forks : Bool) (p : ℕ) : Type 0 where
+  pub put : Put (x .keylow) (x .keyhigh) (y .keylow) (y .keyhigh) signer link ballot form p
   pub forked : (q : ℕ) → q < 128 → inSet (y .forkedlow) (y .forkedhigh) q ≡ ((forks && eqb p q) || inSet (x .forkedlow) (x .forkedhigh) q)
   pub rest : y ≡ withIndex x (y .keylow) (y .keyhigh) (y .forkedlow) (y .forkedhigh)
 

@@ -7,12 +7,12 @@ use mathlib.Core.List.{List}
 use Prim.Native.Nat.{ℕ, _+_, _/_, _%_, _≤_, _<_}
 use lib.Dec.{T, eqb, ltb}
 use lib.ListN.{length, getD}
-use Rattle.base.specs.Tests.{_∈_, any}
+use Rattle.base.specs.Tests.{_∈_}
 use Rattle.base.specs.Sets.{has}
 use Rattle.graph.specs.LearnerGraph.{LearnerGraph}
 use Rattle.graph.specs.Held.{Sized}
 use Rattle.protocol.specs.Ids.{Id, sameId, samePrevious}
-use Rattle.protocol.specs.Message.{Message, isProposal, forks, tran}
+use Rattle.protocol.specs.Message.{Message, forks}
 use Rattle.protocol.specs.WellFormed.{formed1b, formed2a}
 use Rattle.protocol.specs.Table.{Table, at, heldId, heldSigner, heldPrevious, offered, Ordered, tree, reach}
 use Rattle.protocol.specs.Places.{is1bAt, is2aAt, ballotAt, freshAt, lrnsAt}
@@ -65,7 +65,6 @@ pub record Told (G : LearnerGraph) (t : Table) (i : ℕ) (r : Worked) : Type 0 w
 
 -- ---- what is asked of a message m before it is taken or sent
 pub record Judged (G : LearnerGraph) (m : Message) (r : Note) : Type 0 where
-  pub grounded : r .grounded ≡ any isProposal (tran m)
   pub formed1 : r .formed1b ≡ formed1b m
   pub formed2 : r .formed2a ≡ formed2a G m
 
@@ -76,7 +75,7 @@ Marked n forkLow forkHigh low high = (j k : ℕ) → j < n → k < 128 → T (in
 -- ---- the index of the places: a set for each key that a message can be looked for by. Places with other signers, links or ballots may fall
 -- into one set: a set only spares the walk over all places, and each place of it is still asked.
 abbrev pub keys : ℕ
-keys = 72
+keys = 68
 
 -- by the signer
 abbrev pub signerKey : ℕ → ℕ
@@ -93,32 +92,27 @@ ballotKey x = 48 + x / 4294967296 % 16
 abbrev pub formKey : ℕ → ℕ
 formKey f = 64 + f % 4
 
-abbrev pub kindKey : ℕ → ℕ
-kindKey k = 68 + k % 4
-
 -- place j is in the set of a key
 abbrev pub Filed : List ℕ → List ℕ → ℕ → ℕ → Type 0
 Filed keyLow keyHigh k j = T (inSet (getD keyLow k 0) (getD keyHigh k 0) j)
 
 -- each of the first n places is in the sets of its keys, and in the set of those that fork where it does
-pub record Marks (n : ℕ) (kinds signers names previous forkLow forkHigh tops forms keyLow keyHigh : List ℕ) (low high : ℕ) : Type 0 where
+pub record Marks (n : ℕ) (signers names previous forkLow forkHigh tops forms keyLow keyHigh : List ℕ) (low high : ℕ) : Type 0 where
   pub bySigner : Indexed n (λ j. signerKey (getD signers j 0)) keyLow keyHigh
   pub byLink : Indexed n (λ j. linkKey (getD names (getD previous j 0) 0)) keyLow keyHigh
   pub byBallot : Indexed n (λ j. ballotKey (getD tops j 0)) keyLow keyHigh
   pub byForm : Indexed n (λ j. formKey (getD forms j 0)) keyLow keyHigh
-  pub byKind : Indexed n (λ j. kindKey (getD kinds j 0)) keyLow keyHigh
   pub forked : Marked n forkLow forkHigh low high
   pub keyLowFit : length keyLow ≡ keys
   pub keyHighFit : length keyHigh ≡ keys
 
 -- place j is put into the sets of its keys, and no set loses a place
-pub record Put (keyLow keyHigh keyLow′ keyHigh′ : List ℕ) (kind signer link ballot form j : ℕ) : Type 0 where
+pub record Put (keyLow keyHigh keyLow′ keyHigh′ : List ℕ) (signer link ballot form j : ℕ) : Type 0 where
   pub grown : Grown keyLow keyHigh keyLow′ keyHigh′
   pub ofSigner : Filed keyLow′ keyHigh′ (signerKey signer) j
   pub ofLink : Filed keyLow′ keyHigh′ (linkKey link) j
   pub ofBallot : Filed keyLow′ keyHigh′ (ballotKey ballot) j
   pub ofForm : Filed keyLow′ keyHigh′ (formKey form) j
-  pub ofKind : Filed keyLow′ keyHigh′ (kindKey kind) j
   pub lowKept : length keyLow′ ≡ keys
   pub highKept : length keyHigh′ ≡ keys
 

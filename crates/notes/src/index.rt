@@ -10,17 +10,15 @@ ghost use Prim.Native.Nat.{ℕ, _+_, _<_};
 ghost use lib.ListN.{length, getD};
 ghost use Rattle.base.specs.Bytes.{part};
 ghost use Rattle.places.specs.PlaceSets.{inSet};
-ghost use Rattle.notes.specs.Notes.{keys, signerKey, linkKey, ballotKey, formKey, kindKey, Put, Backing, Walked};
+ghost use Rattle.notes.specs.Notes.{keys, signerKey, linkKey, ballotKey, formKey, Put, Backing, Walked};
 
 // How many keys there are.
-pub const KEYS: usize = 72;
+pub const KEYS: usize = 68;
 
-// The keys of 1bs, of 2as and of proposals.
+// The keys of 1bs and of 2as.
 const FIRSTS: usize = 65;
 
 pub const SECONDS: usize = 66;
-
-pub const OFFERS: usize = 69;
 
 fn signer_key(signer: u8) -> usize
     ensures { λ r. ⌜ r ≡ signerKey signer ⌝ }
@@ -44,12 +42,6 @@ fn form_key(form: u8) -> usize
     ensures { λ r. ⌜ r ≡ formKey form ⌝ }
 {
     64 + size(form) % 4
-}
-
-fn kind_key(kind: u8) -> usize
-    ensures { λ r. ⌜ r ≡ kindKey kind ⌝ }
-{
-    68 + size(kind) % 4
 }
 
 // Those of a set that are in the set of key k.
@@ -105,13 +97,12 @@ pub fn walks_for<'a>(
 }
 
 // Place j put into the sets of its keys.
-pub fn mark(sets: &mut [u64], kind: u8, signer: u8, link: u8, ballot: u64, form: u8, j: usize)
+pub fn mark(sets: &mut [u64], signer: u8, link: u8, ballot: u64, form: u8, j: usize)
     requires { ⌜ (j < 128) × (length (now sets) ≡ keys + keys) ⌝ }
-    ensures { λ _. ⌜ Put (part keys (now (sets .entry)) 0) (part keys (now (sets .entry)) keys) (part keys (now (sets .exit)) 0) (part keys (now (sets .exit)) keys) kind signer link ballot form j ⌝ }
+    ensures { λ _. ⌜ Put (part keys (now (sets .entry)) 0) (part keys (now (sets .entry)) keys) (part keys (now (sets .exit)) 0) (part keys (now (sets .exit)) keys) signer link ballot form j ⌝ }
 {
     put_place(sets, KEYS, signer_key(signer), j);
     put_place(sets, KEYS, link_key(link), j);
     put_place(sets, KEYS, ballot_key(ballot), j);
     put_place(sets, KEYS, form_key(form), j);
-    put_place(sets, KEYS, kind_key(kind), j);
 }

@@ -21,8 +21,7 @@ pub struct Worked {
 
 // What is asked of a new message before it is taken or sent.
 pub struct Note {
-    // Whether a proposal lies beneath it, and whether it is well-formed as a 1b and as a 2a.
-    pub grounded: bool,
+    // Whether it is well-formed as a 1b and as a 2a.
     pub formed1b: bool,
     pub formed2a: bool,
 }
@@ -46,12 +45,12 @@ pub const ID_HIGH_AT: usize = 672;
 
 pub const KEY_LOW_AT: usize = 704;
 
-pub const KEY_HIGH_AT: usize = 776;
+pub const KEY_HIGH_AT: usize = 772;
 
 // The places that fork with one before them: one set.
-pub const FORKED_AT: usize = 848;
+pub const FORKED_AT: usize = 840;
 
-pub const WORDS: usize = 850;
+pub const WORDS: usize = 842;
 
 // In the bytes, from 0 on: the lowest place with the id of each place, and at 255, 255. Then its learners, those that it is fresh for, and 0 for a
 // proposal, 1 for a 1b, 2 for a 2a.

@@ -77,7 +77,7 @@ fn step<'a>(
     link: u8,
     forked: Places,
 ) -> Worked
-    requires { ⌜ Ready acceptors l n (now counts) (now masks) (now kinds) (now signers) (now names) (now previous) (now low) (now high) (now «fork_low») (now «fork_high») (now tops) (now learners) (now fresh) (now forms) (now places) × Marks n (now kinds) (now signers) (now names) (now previous) (now «fork_low») (now «fork_high») (now tops) (now forms) (now «key_low») (now «key_high») (forked .low) (forked .high) ⌝ }
+    requires { ⌜ Ready acceptors l n (now counts) (now masks) (now kinds) (now signers) (now names) (now previous) (now low) (now high) (now «fork_low») (now «fork_high») (now tops) (now learners) (now fresh) (now forms) (now places) × Marks n (now signers) (now names) (now previous) (now «fork_low») (now «fork_high») (now tops) (now forms) (now «key_low») (now «key_high») (forked .low) (forked .high) ⌝ }
     ensures { λ r. ⌜ ((t : Table) (id : Id) (prev : Option Id) → length t ≡ n
         → Known (heldGraph acceptors l (now (counts .entry)) (now (masks .entry))) t (now (kinds .entry)) (now (signers .entry)) (now (low .entry)) (now (high .entry))
         (now («fork_low» .entry)) (now («fork_high» .entry)) (now (tops .entry)) (now (learners .entry)) (now (fresh .entry)) (now (forms .entry))
@@ -177,7 +177,7 @@ pub fn step_in<'a>(
     link: u8,
 ) -> Worked
     requires { ⌜ Lent (now words) (now octets) × (ReadyIn acceptors l n (now counts) (now masks) (now kinds) (now signers) (now previous) (now places) (notesIn (now words) (now octets))
-        × MarksIn n (now kinds) (now signers) (now previous) (notesIn (now words) (now octets))) ⌝ }
+        × MarksIn n (now signers) (now previous) (notesIn (now words) (now octets))) ⌝ }
     ensures { λ r. ⌜ ((t : Table) (id : Id) (prev : Option Id) → length t ≡ n
         → KnownIn (heldGraph acceptors l (now (counts .entry)) (now (masks .entry))) t (now (kinds .entry)) (now (signers .entry)) (notesIn (now (words .entry)) (now (octets .entry)))
         → Candidate t (notesIn (now (words .entry)) (now (octets .entry)) .names) (now (previous .entry)) (now (places .entry)) id prev name link

@@ -4,7 +4,7 @@ use mathlib.Core.Bool.{Bool, not}
 use mathlib.Core.Option.{Option, none, some}
 use Rattle.base.specs.Tests.{pick}
 use Rattle.base.specs.declared.refusal.Refusal.{Refusal}
-use Rattle.base.specs.declared.refusal.Refusal.the-variants.{OtherRound, Signer, Known, Reference, Previous, NoProposal, Malformed1b, Malformed2a, Full}
+use Rattle.base.specs.declared.refusal.Refusal.the-variants.{OtherRound, Signer, Known, Reference, Previous, Malformed1b, Malformed2a, Full}
 use Rattle.order.specs.declared.rows.Row.{Row}
 use Rattle.order.specs.declared.rows.Row.the-variants.{Clear, Applies}
 
@@ -21,7 +21,6 @@ headRow other foreign known = pick other (some OtherRound) (pick foreign (some S
 abbrev pub chainRow : Bool → Bool → Option Refusal
 chainRow lacks unchained = pick lacks (some Reference) (pick unchained (some Previous) none)
 
--- rows 13 to 16, where the message has a proposal beneath it, is well-formed as a 1b and as a 2a, and lacks room
-abbrev pub formRow : Bool → Bool → Bool → Bool → Option Refusal
-formRow grounded first second full =
-    pick (not grounded) (some NoProposal) (pick (not first) (some Malformed1b) (pick (not second) (some Malformed2a) (pick full (some Full) none)))
+-- rows 14 to 16, where the message is well-formed as a 1b and as a 2a, and lacks room
+abbrev pub formRow : Bool → Bool → Bool → Option Refusal
+formRow first second full = pick (not first) (some Malformed1b) (pick (not second) (some Malformed2a) (pick full (some Full) none))

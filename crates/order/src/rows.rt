@@ -38,13 +38,10 @@ pub fn chain_row(lacks: bool, unchained: bool) -> Row
     Row::Clear
 }
 
-// Rows 13 to 16: a proposal lies beneath the message, it is well-formed as a 1b and as a 2a, and there is no room for it.
-pub fn form_row(grounded: bool, formed1b: bool, formed2a: bool, full: bool) -> Row
-    ensures { λ r. ⌜ r ≡ rowOf (formRow grounded formed1b formed2a full) ⌝ }
+// Rows 14 to 16: the message is well-formed as a 1b and as a 2a, and there is no room for it.
+pub fn form_row(formed1b: bool, formed2a: bool, full: bool) -> Row
+    ensures { λ r. ⌜ r ≡ rowOf (formRow formed1b formed2a full) ⌝ }
 {
-    if !grounded {
-        return Row::Applies(Refusal::NoProposal);
-    }
     if !formed1b {
         return Row::Applies(Refusal::Malformed1b);
     }

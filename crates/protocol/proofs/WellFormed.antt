@@ -11,7 +11,7 @@ use Rattle.graph.specs.LearnerGraph.{LearnerGraph}
 use Rattle.protocol.specs.Ids.{Id, sameId}
 use Rattle.protocol.specs.Message.{Message, idOf, signer, previous, references, isProposal, isAcceptor, is1b, is2a, tran, ballot}
 use Rattle.protocol.specs.Learners.{lrns}
-use Rattle.protocol.specs.WellFormed.{isPrevious, linked, chained, alone, formed1b, formed2a, hasProposal, wellFormed}
+use Rattle.protocol.specs.WellFormed.{isPrevious, linked, chained, alone, formed1b, formed2a, wellFormed}
 use Rattle.protocol.proofs.Ids.{sameId-law}
 
 -- ---- definition 18: u is the previous message of m
@@ -74,11 +74,6 @@ formed2a-law G m = (
   λ h two. let (a, k, l) = any-out (lrns G m) (below (G .learners)) (imp-out (is2a m) (any (lrns G m) (below (G .learners))) h two) in (a, below-out (G .learners) k, l),
   λ f. imp-in (is2a m) (any (lrns G m) (below (G .learners))) (λ two. let (a, k, l) = f two in any-in (lrns G m) (below-in (G .learners) k) l),
 )
-
--- ---- row 13
-pub hasProposal-law : (m : Message) → T (hasProposal m) ↔ ((y : Message) × (y ∈ tran m) × T (isProposal y))
-unfolding hasProposal
-hasProposal-law m = (λ h. any-out isProposal (tran m) h, λ (y, k, t). any-in isProposal k t)
 
 pub wellFormed-law : (G : LearnerGraph) (m : Message) → T (wellFormed G m) ↔ (T (chained m) × T (formed1b m) × T (formed2a G m))
 unfolding wellFormed

@@ -31,9 +31,5 @@ formed1b m = not (is1b m) || all (alone m) (tran m)
 unfoldable pub formed2a : LearnerGraph → Message → Bool
 formed2a G m = not (is2a m) || any (lrns G m) (below (G .learners))
 
--- ---- row 13: a proposal is in Tran
-unfoldable pub hasProposal : Message → Bool
-hasProposal m = any isProposal (tran m)
-
 unfoldable pub wellFormed : LearnerGraph → Message → Bool
 wellFormed G m = chained m && formed1b m && formed2a G m

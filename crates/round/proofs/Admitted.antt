@@ -16,14 +16,14 @@ use Rattle.message.specs.declared.Proposal.{Proposal}
 use Rattle.message.specs.declared.AcceptorMessage.{AcceptorMessage}
 use Rattle.protocol.specs.Ids.{Id}
 use Rattle.protocol.specs.Message.{Message}
-use Rattle.protocol.specs.WellFormed.{formed1b, formed2a, hasProposal}
+use Rattle.protocol.specs.WellFormed.{formed1b, formed2a}
 use Rattle.protocol.specs.Table.{Held, offers}
 use Rattle.round.specs.Round.{Round}
 use Rattle.round.specs.declared.Outcome.the-variants as outcome
 use Rattle.round.specs.Limits.{replyLen}
 use Rattle.round.specs.Held.{graphOf, votes, placeOf}
 use Rattle.round.specs.Handed.{fits}
-use Rattle.round.specs.Rows.{referenceIds, previousId, otherRound, foreign, isKnownId, lacks, unchained, voteRecord, messageOf, ungrounded, room, full, proposalRows, acceptorRows, firstOf}
+use Rattle.round.specs.Rows.{referenceIds, previousId, otherRound, foreign, isKnownId, lacks, unchained, voteRecord, messageOf, room, full, proposalRows, acceptorRows, firstOf}
 use Rattle.round.specs.Reply.{replyBytes, replyRecord, isSent}
 use Rattle.round.specs.Delivery.{Result, refused, sent, joins, answered, processed, hold, returned, entered, decidedBy, taken, delivery}
 use Rattle.round.specs.ShutOut.{Handed, ProposalAccepted, VoteAccepted}
@@ -85,10 +85,6 @@ module _ (r : Round) where
   not-full : (i : Id) → r .held < room r i → T (not (full r i))
   not-full i l = not-T (full r i) (λ t. omega (arith, leb→le (room r i) (r .held) t))
 
-  grounded : (m : Message) → T (hasProposal m) → T (not (ungrounded r m))
-  unfolding ungrounded
-  grounded m h = not-yes (hasProposal m) h
-
   pub proposal-none : (i : Id) (f : Proposal) → f .house ≡ r .house → f .bay ≡ r .bay → T (not (isKnownId r i)) → r .held < room r i → firstOf (proposalRows r i f) ≡ none
   unfolding proposalRows
   proposal-none i f house bay unknown free =
@@ -96,18 +92,17 @@ module _ (r : Round) where
 
   vote-none : (i : Id) (f : AcceptorMessage) (o : Option Id) (ids : List Id) (m : Message)
       → f .house ≡ r .house → f .bay ≡ r .bay → f .signer < r .graph .acceptors → T (not (isKnownId r i)) → T (not (lacks r ids)) → T (not (unchained r (f .signer) ids o))
-      → T (hasProposal m) → T (formed1b m) → T (formed2a (graphOf r) m) → r .held < room r i → firstOf (acceptorRows r i f o ids m) ≡ none
+      → T (formed1b m) → T (formed2a (graphOf r) m) → r .held < room r i → firstOf (acceptorRows r i f o ids m) ≡ none
   unfolding acceptorRows
-  vote-none i f o ids m house bay signer unknown has chains proposed one two free =
+  vote-none i f o ids m house bay signer unknown has chains one two free =
       rows-none _ _ _ (here (f .house) (f .bay) house bay)
       (rows-none _ _ _ (not-foreign (f .signer) signer)
       (rows-none _ _ _ unknown
       (rows-none _ _ _ has
       (rows-none _ _ _ chains
-      (rows-none _ _ _ (grounded m proposed)
       (rows-none _ _ _ (not-yes (formed1b m) one)
       (rows-none _ _ _ (not-yes (formed2a (graphOf r) m) two)
-      (rows-none _ _ _ (not-full i free) no-rows))))))))
+      (rows-none _ _ _ (not-full i free) no-rows)))))))
 
 -- ---- so it is accepted
 pub proposalAccepted : ProposalAccepted
@@ -116,9 +111,9 @@ proposalAccepted H r b buffer f ok reads house bay unknown free =
     (decided-kept H r (H b) (offers (H b) (f .proposer) (f .ballot)) (firstOf (proposalRows r (H b) f)) (proposal-none r (H b) f house bay unknown free))
 
 pub voteAccepted : VoteAccepted
-voteAccepted H r b buffer f m ok reads house bay signer unknown has chains is proposed one two free =
+voteAccepted H r b buffer f m ok reads house bay signer unknown has chains is one two free =
     let h = voteRecord r (H b) (f .signer) (previousId b f) (referenceIds b f) in
     subst Kept (sym (handed H r b buffer ok ∙ ap (taken H r b) reads))
     (decided-kept H r (H b) h (firstOf (acceptorRows r (H b) f (previousId b f) (referenceIds b f) (messageOf r h)))
     (vote-none r (H b) f (previousId b f) (referenceIds b f) (messageOf r h) house bay signer unknown has chains
-    (subst (λ (x : Message). T (hasProposal x)) is proposed) (subst (λ (x : Message). T (formed1b x)) is one) (subst (λ (x : Message). T (formed2a (graphOf r) x)) is two) free))
+    (subst (λ (x : Message). T (formed1b x)) is one) (subst (λ (x : Message). T (formed2a (graphOf r) x)) is two) free))

@@ -7,10 +7,10 @@ use mathlib.Core.Option.{Option, none, some}
 use mathlib.Core.List.{List, [], _∷_, _++_, List·Memᴰ·head, List·Memᴰ·tail}
 use Prim.Native.Nat.{ℕ, _+_, _<_, _≤_}
 use native.Mathlib.Omega.{arith}
-use lib.Dec.{T, eqb, ltb, leb, eqb→eq, eqb-refl, ltb→lt, nltb→le, not-T}
+use lib.Dec.{T, eqb, ltb, eqb→eq, eqb-refl, not-T}
 use lib.ListN.{length, getD}
 use Rattle.base.specs.Tests.{_∈_, pick, any, all, below}
-use Rattle.base.proofs.Tests.{and-in, and-r, or-l, or-r, any-in, all-in, all-out, dec-T, neqb→ne, ne→neqb}
+use Rattle.base.proofs.Tests.{and-in, or-l, or-r, any-in, all-in, dec-T, neqb→ne, ne→neqb}
 use Rattle.message.specs.declared.Proposal.{Proposal}
 use Rattle.protocol.specs.Ids.{Id, sameId}
 use Rattle.protocol.specs.Message.{Message, idOf, isProposal, proposed, is1b, is2a, tran, largest, ballot}
@@ -21,13 +21,12 @@ use Rattle.protocol.proofs.Ids.{sameId-law}
 use Rattle.protocol.proofs.Message.{2a-law}
 use Rattle.protocol.proofs.Ballot.{ballot-above}
 use Rattle.protocol.proofs.Places.{is1b-at}
-use Rattle.protocol.proofs.Table.{at-past, nothing-past, tree-is, tree-proposal, reach-cases, reach-le, reach-self, reach-step, tran-places}
+use Rattle.protocol.proofs.Table.{tree-is, tree-proposal, reach-cases, reach-le, reach-self, reach-step, tran-places}
 use Rattle.protocol.proofs.Growth.{at-append, at-end, tree-end, ordered-snoc}
 use Rattle.round.specs.Round.{Round}
 use Rattle.round.specs.declared.Outcome.the-variants as outcome
 use Rattle.round.specs.Limits.{maxHeld, acceptorRoom, listening}
 use Rattle.round.specs.Held.{graphOf, votes, idAt, isRecent, isProposalAt, signerAt, previousAt, referencesAt, recordAt, tableOf, isKnown, placeOf}
-use Rattle.round.specs.Handed.{refersBack}
 use Rattle.round.specs.Rows.{placed, isKnownId, isAwaited, messageOf, proposalRows, firstOf}
 use Rattle.round.specs.Reply.{replyPlaces, replyBytes, replyRecord, isSent}
 use Rattle.round.specs.Delivery.{Result, sent, joins, processed, hold, entered, decidedBy, taken, delivery}
@@ -40,6 +39,7 @@ use Rattle.round.proofs.Records.{at-table}
 use Rattle.round.proofs.Chosen.{chosen-out, reply-covers}
 use Rattle.round.proofs.Accepting.{Accepts, proposal-accepts}
 use Rattle.round.proofs.Canonical.{table-size}
+use Rattle.round.proofs.Tables.{ordered-table}
 use Rattle.round.proofs.Bytes.{heldBallot, node-proposed}
 use Rattle.round.proofs.Admitted.{handed, proposal-none}
 use Rattle.round.proofs.Storing.{new-place}
@@ -111,30 +111,6 @@ module _ (u : Table) (n v x : ℕ) (tops : Tops u n v x) where
   tops-1b : T (formed1b m)
   unfolding formed1b
   tops-1b = or-r (not (is1b m)) (all (alone m) (tran m)) (all-in (alone m) (tran m) all-alone)
-
--- ---- a round that passes row 17 has an ordered table
-pick-places : (b : Bool) (i : Id) (s x : ℕ) (o : Option Id) (l : List ℕ) (j : ℕ) → j ∈ places (pick b (offers i s x) (says i s o l)) → T (not b) × (j ∈ l)
-unfolding places
-pick-places true i s x o l j m = elim m [ ]
-pick-places false i s x o l j m = (tt, m)
-
-ordered-table : (r : Round) → Fitting r → Ordered (tableOf r)
-unfolding refersBack
-ordered-table r fit i j m = step (dec-T (ltb i (r .held)))
-  where
-    back : i < r .held → j < i
-    back l =
-        let (t, k) = pick-places (isProposalAt r i) (idAt r i) (signerAt r i) (getD (r .ballots) i 0) (previousAt r i) (referencesAt r i) j
-        (subst (λ (h : Held). j ∈ places h) (at-table r i l) m) in
-        by (isProposalAt r i) t k (fit .back i l)
-      where
-        by : (b : Bool) → T (not b) → j ∈ referencesAt r i → T (b || (leb 1 (getD (r .counts) i 0) && all (λ q. ltb q i) (referencesAt r i))) → j < i
-        by true t k h = absurd t
-        by false t k h = ltb→lt j i (all-out (λ q. ltb q i) k (and-r (leb 1 (getD (r .counts) i 0)) (all (λ q. ltb q i) (referencesAt r i)) h))
-
-    step : T (ltb i (r .held)) ⊎ T (not (ltb i (r .held))) → j < i
-    step (inl t) = back (ltb→lt i (r .held) t)
-    step (inr t) = absurd (nothing-past (subst (λ (h : Held). j ∈ places h) (at-past (tableOf r) i (omega (arith, table-size r, nltb→le i (r .held) t))) m))
 
 -- ---- the delivery
 some-one : (p q : ℕ) → some p ≡ some q → p ≡ q

@@ -46,7 +46,7 @@ module _ (f : ℕ → Message) where
   node-offered (offers i s b) = refl
   node-offered (says i s p l) = refl
 
-  gather-in : {k : ℕ} {l : List ℕ} → k ∈ l → f k ∈ listed (gather f l)
+  pub gather-in : {k : ℕ} {l : List ℕ} → k ∈ l → f k ∈ listed (gather f l)
   unfolding gather listed
   gather-in (List·Memᴰ·head e) = List·Memᴰ·head (ap f e)
   gather-in (List·Memᴰ·tail m) = List·Memᴰ·tail (gather-in m)

@@ -7,13 +7,13 @@ use Prim.Native.Nat.{ℕ, _<_, _≤_}
 use native.Mathlib.Omega.{arith}
 use lib.Dec.{T, eqb, ltb, leb, eqb→eq, ltb→lt, leb→le, lt→ltb, le→leb, T-not}
 use lib.ListN.{getD}
-use Rattle.base.specs.Tests.{pick, all, below}
+use Rattle.base.specs.Tests.{_∈_, pick, all, below}
 use Rattle.base.proofs.Tests.{and-in, and-l, and-r, or-l, or-r, or-out, all-in, all-out, below-in, below-out, eq→eqb}
 use Rattle.protocol.specs.Ids.{Id}
 use Rattle.protocol.specs.Table.{offers, says}
 use Rattle.round.specs.Round.{Round}
 use Rattle.round.specs.Limits.{maxHeld, noPlace}
-use Rattle.round.specs.Held.{idAt, referencesAt, named, recordAt}
+use Rattle.round.specs.Held.{idAt, isProposalAt, referencesAt, named, recordAt}
 use Rattle.round.specs.Handed.{placeFits, refersBack, messageFits, graphFits, ownFits, fits}
 
 -- ---- a place is none, or that of a held message
@@ -36,6 +36,32 @@ place-more r s p l h = step (place-cases r p h)
     step : (p ≡ noPlace) ⊎ (p < r .held) → T (placeFits s p)
     step (inl e) = place-none s p e
     step (inr e) = place-held s p (omega arith)
+
+-- ---- an acceptor message has references, and each is to an earlier place
+module _ (r : Round) (p : ℕ) where
+  abbrev some-back : Bool
+  some-back = leb 1 (getD (r .counts) p 0)
+
+  abbrev all-back : Bool
+  all-back = all (λ j. ltb j p) (referencesAt r p)
+
+  pub back-in : T (isProposalAt r p) ⊎ ((1 ≤ getD (r .counts) p 0) × ((j : ℕ) → j ∈ referencesAt r p → j < p)) → T (refersBack r p)
+  unfolding refersBack
+  back-in (inl t) = or-l (isProposalAt r p) (some-back && all-back) t
+  back-in (inr (one, earlier)) =
+      or-r (isProposalAt r p) (some-back && all-back)
+      (and-in some-back all-back (le→leb 1 (getD (r .counts) p 0) one) (all-in (λ j. ltb j p) (referencesAt r p) (λ j m. lt→ltb j p (earlier j m))))
+
+  pub back-out : T (refersBack r p) → T (not (isProposalAt r p)) → (1 ≤ getD (r .counts) p 0) × ((j : ℕ) → j ∈ referencesAt r p → j < p)
+  unfolding refersBack
+  back-out h t = step (or-out (isProposalAt r p) (some-back && all-back) h)
+    where
+      step : T (isProposalAt r p) ⊎ T (some-back && all-back) → (1 ≤ getD (r .counts) p 0) × ((j : ℕ) → j ∈ referencesAt r p → j < p)
+      step (inl k) = absurd (T-not (isProposalAt r p) t k)
+      step (inr k) = (
+        leb→le 1 (getD (r .counts) p 0) (and-l some-back all-back k),
+        λ j m. ltb→lt j p (all-out (λ q. ltb q p) m (and-r some-back all-back k)),
+      )
 
 -- ---- the whole of row 17's tests
 pub record Fitting (r : Round) : Type 0 where

@@ -114,7 +114,7 @@ module _ (r : Round) (i : Id) where
   unfolding acceptorRows
   acceptor-full m o ids t k =
       at-end _ (skip _ _ _ (λ e. absurd (omega arith)) (skip _ _ _ (λ e. absurd (omega arith)) (skip _ _ _ (λ e. absurd (omega arith)) (skip _ _ _ (λ e. absurd (omega arith))
-      (skip _ _ _ (λ e. absurd (omega arith)) (skip _ _ _ (λ e. absurd (omega arith)) (skip _ _ _ (λ e. absurd (omega arith)) (skip _ _ _ (λ e. absurd (omega arith)) k))))))))
+      (skip _ _ _ (λ e. absurd (omega arith)) (skip _ _ _ (λ e. absurd (omega arith)) (skip _ _ _ (λ e. absurd (omega arith)) k)))))))
 
   -- "128 held; for an acceptor 127, or 128 for its own message returning"
   full-words : T (full r i) → (127 ≤ r .held) × ((T (votes r) → ⊥) ⊎ T (isAwaited r i) → 128 ≤ r .held)

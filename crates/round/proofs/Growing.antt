@@ -1,26 +1,27 @@
 -- Holding a record keeps the sizes of the arrays and row 17's tests, and is one more place of the table.
 use mathlib.Core.Path.{_≡_, refl, sym, ap, subst, _∙_}
 use mathlib.Core.Logic.{_⊎_, inl, inr}
-use mathlib.Core.Bool.{Bool, not, _&&_, _||_}
+use mathlib.Core.Bool.{Bool, not}
+use mathlib.Core.List.{List}
 use Prim.Native.Nat.{ℕ, _*_, _<_, _≤_}
 use native.Mathlib.Omega.{arith}
-use lib.Dec.{T, eqb, ltb, leb, eqb→eq, lt→ltb}
+use lib.Dec.{T, eqb, leb, eqb→eq, leb→le}
 use lib.ListN.{length, getD, length-set}
 use lib.Seq.{getD-set-same, getD-set-other}
-use Rattle.base.specs.Tests.{all}
-use Rattle.base.proofs.Tests.{and-in, or-l, or-r, or-out, all-in, dec-T, neqb→ne}
+use Rattle.base.specs.Tests.{_∈_}
+use Rattle.base.proofs.Tests.{or-out, dec-T, neqb→ne}
 use Rattle.base.proofs.Cuts.{length-put}
 use Rattle.message.specs.Layout.{idLen, proposalKind}
 use Rattle.protocol.specs.Table.{Held, heldId, heldSigner, heldPrevious, offered, places}
 use Rattle.round.specs.Round.{Round}
 use Rattle.round.specs.Limits.{maxHeld}
-use Rattle.round.specs.Held.{idAt, isProposalAt}
+use Rattle.round.specs.Held.{idAt, isProposalAt, referencesAt}
 use Rattle.round.specs.Handed.{placeFits, ownFits, refersBack}
 use Rattle.round.specs.Delivery.{hold, previousPlace}
 use Rattle.round.specs.Demands.{Typed}
 use Rattle.round.proofs.Step.{Same, Appends}
 use Rattle.round.proofs.Parts.{bytes-put}
-use Rattle.round.proofs.Fitting.{Fitting, Keeps, back-kept, place-more}
+use Rattle.round.proofs.Fitting.{Fitting, Keeps, back-in, back-kept, place-more}
 use Rattle.round.proofs.Holding.{Storable, appended, kindIn, ballotIn, kind-offered, hold-is, keeps, table, new-id, new-refs, new-kind}
 
 module _ (r : Round) (typed : Typed r) (fit : Fitting r) (room : r .held < maxHeld) (h : Held) (can : Storable r h) (k : ℕ) where
@@ -48,19 +49,17 @@ module _ (r : Round) (typed : Typed r) (fit : Fitting r) (room : r .held < maxHe
   new-count : getD (s .counts) (r .held) 0 ≡ length (places h)
   new-count = getD-set-same (r .counts) (r .held) (length (places h)) 0 (omega (arith, typed .countsSize))
 
-  back-from : T (offered h) ⊎ T (leb 1 (length (places h))) → T (offered h || (leb 1 (length (places h)) && all (λ j. ltb j (r .held)) (places h)))
-  back-from (inl t) = or-l (offered h) (leb 1 (length (places h)) && all (λ j. ltb j (r .held)) (places h)) t
-  back-from (inr t) =
-      or-r (offered h) (leb 1 (length (places h)) && all (λ j. ltb j (r .held)) (places h))
-      (and-in (leb 1 (length (places h))) (all (λ j. ltb j (r .held)) (places h)) t (all-in (λ j. ltb j (r .held)) (places h) (λ j m. lt→ltb j (r .held) (can .earlier j m))))
-
   new-back : T (refersBack s (r .held))
-  unfolding refersBack
-  new-back =
-      subst (λ (b : Bool). T b)
-      (λ i. sym (ap (λ (n : ℕ). eqb n proposalKind) (new-kind r typed fit room h k can) ∙ kind-offered h) i
-      || (leb 1 (sym new-count i) && all (λ j. ltb j (r .held)) (sym (new-refs r typed fit room h k can) i)))
-      (back-from (or-out (offered h) (leb 1 (length (places h))) (can .some′)))
+  new-back = back-in s (r .held) (step (or-out (offered h) (leb 1 (length (places h))) (can .some′)))
+    where
+      step : T (offered h) ⊎ T (leb 1 (length (places h)))
+          → T (isProposalAt s (r .held)) ⊎ ((1 ≤ getD (s .counts) (r .held) 0) × ((j : ℕ) → j ∈ referencesAt s (r .held) → j < r .held))
+      step (inl t) = inl (subst T (sym (ap (λ (n : ℕ). eqb n proposalKind) (new-kind r typed fit room h k can) ∙ kind-offered h)) t)
+      step (inr t) =
+          inr (
+            subst (λ (n : ℕ). 1 ≤ n) (sym new-count) (leb→le 1 (length (places h)) t),
+            λ j m. can .earlier j (subst (λ (l : List ℕ). j ∈ l) (new-refs r typed fit room h k can) m),
+          )
 
   new-previous : T (placeFits s (getD (s .previous) (r .held) 0))
   new-previous =

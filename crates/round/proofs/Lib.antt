@@ -69,6 +69,11 @@ pub mod Agreement
 pub mod Demands
 -- SHA-256 is an id rule
 pub mod Sha256
+-- ---- row 13, which was struck
+-- A round that passes row 17 has an ordered table, and each acceptor message in it a reference
+pub mod Tables
+-- Row 13 applied to no message that came as far as it
+pub mod Struck
 -- ---- what the contract must shut out
 -- A round that turns every message down
 pub mod Admitted

@@ -56,5 +56,4 @@ module _ (r : Round) (i : Id) where
       let f = first-none _ _ _ (e .1) in
       let g = first-none _ _ _ (f .1) in
       let k = first-none _ _ _ (g .1) in
-      let l = first-none _ _ _ (k .1) in
-      record { fresh = record { unknown = c .0; notFull = l .0 }; has = d .0; chains = e .0; forms = g .0 }
+      record { fresh = record { unknown = c .0; notFull = k .0 }; has = d .0; chains = e .0; forms = f .0 }

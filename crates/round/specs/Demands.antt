@@ -3,12 +3,12 @@
 use mathlib.Core.Path.{_≡_}
 use mathlib.Core.Logic.{_≢_, _⊎_}
 use mathlib.Core.Bool.{Bool, not}
-use mathlib.Core.Option.{Option, none, some}
+use mathlib.Core.Option.{Option, none, some, Option·map}
 use mathlib.Core.List.{List, [], _∷_, _++_, map}
 use Prim.Native.Nat.{ℕ, _<_, _*_}
 use lib.Dec.{T}
 use lib.ListN.{length, getD, take, drop}
-use Rattle.base.specs.Tests.{_∈_}
+use Rattle.base.specs.Tests.{_∈_, pick, any}
 use Rattle.base.specs.Refusals.{numberOf}
 use Rattle.base.specs.declared.refusal.Refusal.{Refusal}
 use Rattle.base.specs.declared.refusal.Refusal.the-variants.{OtherRound, Argument}
@@ -21,7 +21,7 @@ use Rattle.message.specs.declared.Proposal.{Proposal}
 use Rattle.message.specs.declared.AcceptorMessage.{AcceptorMessage}
 use Rattle.message.specs.declared.Reading.the-variants.{OfProposer, OfAcceptor}
 use Rattle.protocol.specs.Ids.{Id}
-use Rattle.protocol.specs.Message.{Message}
+use Rattle.protocol.specs.Message.{Message, isProposal, tran}
 use Rattle.protocol.specs.Table.{reach}
 use Rattle.round.specs.Round.{Round}
 use Rattle.round.specs.declared.Opening.the-variants.{Opened}
@@ -32,7 +32,7 @@ use Rattle.round.specs.Limits.{maxHeld, listening}
 use Rattle.round.specs.Held.{graphOf, idAt, named, isProposalAt, isRecent, tableOf, knownPlaces}
 use Rattle.round.specs.Handed.{fits}
 use Rattle.round.specs.Opening.{opened}
-use Rattle.round.specs.Rows.{referenceIds, previousId, proposalRows, acceptorRows}
+use Rattle.round.specs.Rows.{referenceIds, previousId, otherRound, foreign, isKnownId, lacks, unchained, voteRecord, messageOf, malformed1b, malformed2a, full, proposalRows, acceptorRows, firstOf}
 use Rattle.round.specs.Delivery.{delivered, replied}
 use Rattle.round.specs.Lists.{Call, run, lastRound, accepted, written, reports}
 
@@ -155,7 +155,7 @@ abbrev pub RowsInOrder : Type 0
 RowsInOrder = (r : Round) (i : Id)
     → ((m : Proposal) → rowNumbers (proposalRows r i m) ≡ 8 ∷ 10 ∷ 16 ∷ [])
     × ((m : AcceptorMessage) (previous : Option Id) (ids : List Id) (tree : Message)
-    → rowNumbers (acceptorRows r i m previous ids tree) ≡ 8 ∷ 9 ∷ 10 ∷ 11 ∷ 12 ∷ 13 ∷ 14 ∷ 15 ∷ 16 ∷ [])
+    → rowNumbers (acceptorRows r i m previous ids tree) ≡ 8 ∷ 9 ∷ 10 ∷ 11 ∷ 12 ∷ 14 ∷ 15 ∷ 16 ∷ [])
 
 -- ---- rounds reached from an opening
 -- a round reached from an opening passes 17 in every later call
@@ -202,3 +202,50 @@ ReplySays r m z = (f : AcceptorMessage) × (reading z ≡ OfAcceptor f)
 abbrev pub ReplyReadsBack : Type 0
 ReplyReadsBack = (H : List ℕ → Id) → IdRule H → (r : Round) → Typed r → (b buffer : List ℕ) (n : ℕ)
     → delivered H r b buffer .outcome ≡ outcome.Replied n → ReplySays r (H b) (take n (replied H r b buffer))
+
+-- ---- A SHORTER FAULT PAGE: what let row 13, "no proposal in Tran", be struck
+-- a proposal lies beneath m
+abbrev pub grounded : Message → Bool
+grounded m = any isProposal (tran m)
+
+-- the acceptor message that the bytes b say, over the messages that r holds
+abbrev pub arriving : (List ℕ → Id) → Round → List ℕ → AcceptorMessage → Message
+arriving H r b f = messageOf r (voteRecord r (H b) (f .signer) (previousId b f) (referenceIds b f))
+
+-- "An acceptor message has a reference, each reference is to a known message, so a proposal always lies beneath."
+abbrev pub GroundedIn : (List ℕ → Id) → Round → Type 0
+GroundedIn H r = (b : List ℕ) (f : AcceptorMessage) → reading b ≡ OfAcceptor f
+    → T (not (lacks r (referenceIds b f))) → T (grounded (arriving H r b f))
+
+-- "Show this for every round that passes 17": of a `Typed` one, whose table has each reference that a count names. A round in bytes always is
+-- (StruckInBytes of capi).
+abbrev pub AlwaysGrounded : Type 0
+AlwaysGrounded = (H : List ℕ → Id) (r : Round) → Typed r → T (fits r) → GroundedIn H r
+
+-- the table as it was: rows 8 to 16 of an acceptor message, each test with its number; the rows of a proposal are those that they were
+unfoldable pub formerRows : Round → Id → AcceptorMessage → Option Id → List Id → Message → List (Bool × ℕ)
+formerRows r i m previous ids tree =
+    (otherRound r (m .house) (m .bay), 8)
+    ∷ (foreign r (m .signer), 9)
+    ∷ (isKnownId r i, 10)
+    ∷ (lacks r ids, 11)
+    ∷ (unchained r (m .signer) ids previous, 12)
+    ∷ (not (grounded tree), 13)
+    ∷ (malformed1b r tree, 14)
+    ∷ (malformed2a r tree, 15)
+    ∷ (full r i, 16)
+    ∷ []
+
+-- the number of the first row that applies
+unfoldable pub firstNumber : List (Bool × ℕ) → Option ℕ
+firstNumber [] = none
+firstNumber ((applies, n) ∷ l) = pick applies (some n) (firstNumber l)
+
+-- "Growers see the same acceptances as before": a message is turned down by the row that turned it down before, or by none where none did
+abbrev pub SameIn : (List ℕ → Id) → Round → Type 0
+SameIn H r = (b : List ℕ) (f : AcceptorMessage) → reading b ≡ OfAcceptor f
+    → firstNumber (formerRows r (H b) f (previousId b f) (referenceIds b f) (arriving H r b f))
+    ≡ Option·map numberOf (firstOf (acceptorRows r (H b) f (previousId b f) (referenceIds b f) (arriving H r b f)))
+
+abbrev pub SameAcceptances : Type 0
+SameAcceptances = (H : List ℕ → Id) (r : Round) → Typed r → T (fits r) → SameIn H r

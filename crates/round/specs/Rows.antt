@@ -1,4 +1,4 @@
--- Rows 8 to 16 of the table "When a call is turned down", each with its words, and their order.
+-- Rows 8 to 16 of the table "When a call is turned down", each with its words, and their order. There is no row 13 (base/specs/Refusals).
 use mathlib.Core.Bool.{Bool, false, not, _&&_}
 use mathlib.Core.Option.{Option, none, some}
 use mathlib.Core.List.{List, [], _∷_, map}
@@ -7,13 +7,13 @@ use lib.Dec.{eqb, leb}
 use Rattle.base.specs.Tests.{pick, any, all}
 use Rattle.base.specs.Bytes.{part}
 use Rattle.base.specs.declared.refusal.Refusal.{Refusal}
-use Rattle.base.specs.declared.refusal.Refusal.the-variants.{OtherRound, Signer, Known, Reference, Previous, NoProposal, Malformed1b, Malformed2a, Full}
+use Rattle.base.specs.declared.refusal.Refusal.the-variants.{OtherRound, Signer, Known, Reference, Previous, Malformed1b, Malformed2a, Full}
 use Rattle.message.specs.Layout as layout
 use Rattle.message.specs.declared.Proposal.{Proposal}
 use Rattle.message.specs.declared.AcceptorMessage.{AcceptorMessage}
 use Rattle.protocol.specs.Ids.{Id, sameId}
 use Rattle.protocol.specs.Message.{Message}
-use Rattle.protocol.specs.WellFormed.{formed1b, formed2a, hasProposal}
+use Rattle.protocol.specs.WellFormed.{formed1b, formed2a}
 use Rattle.protocol.specs.Table.{Held, says, nodeBy, tree}
 use Rattle.round.specs.Round.{Round}
 use Rattle.round.specs.Limits.{maxHeld, acceptorRoom}
@@ -79,10 +79,6 @@ module _ (r : Round) where
   abbrev pub messageOf : Held → Message
   messageOf h = nodeBy (tree (tableOf r)) h
 
-  -- ---- row 13: "no proposal in Tran"
-  unfoldable pub ungrounded : Message → Bool
-  ungrounded m = not (hasProposal m)
-
   -- ---- row 14: "1b not well-formed"
   abbrev pub malformed1b : Message → Bool
   malformed1b m = not (formed1b m)
@@ -109,7 +105,6 @@ module _ (r : Round) where
       ∷ (isKnownId i, Known)
       ∷ (lacks ids, Reference)
       ∷ (unchained (m .signer) ids previous, Previous)
-      ∷ (ungrounded tree, NoProposal)
       ∷ (malformed1b tree, Malformed1b)
       ∷ (malformed2a tree, Malformed2a)
       ∷ (full i, Full)

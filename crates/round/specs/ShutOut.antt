@@ -19,7 +19,7 @@ use Rattle.message.specs.declared.AcceptorMessage.{AcceptorMessage}
 use Rattle.message.specs.declared.Reading.the-variants.{OfProposer, OfAcceptor}
 use Rattle.protocol.specs.Ids.{Id}
 use Rattle.protocol.specs.Message.{Message}
-use Rattle.protocol.specs.WellFormed.{formed1b, formed2a, hasProposal}
+use Rattle.protocol.specs.WellFormed.{formed1b, formed2a}
 use Rattle.protocol.specs.Report.{decides}
 use Rattle.protocol.specs.Theorems.{Peopled}
 use Rattle.round.specs.Round.{Round}
@@ -54,7 +54,7 @@ VoteAccepted = (H : List ℕ → Id) (r : Round) (b buffer : List ℕ) (f : Acce
     → f .house ≡ r .house → f .bay ≡ r .bay → f .signer < r .graph .acceptors → T (not (isKnownId r (H b)))
     → T (not (lacks r (referenceIds b f))) → T (not (unchained r (f .signer) (referenceIds b f) (previousId b f)))
     → m ≡ messageOf r (voteRecord r (H b) (f .signer) (previousId b f) (referenceIds b f))
-    → T (hasProposal m) → T (formed1b m) → T (formed2a (graphOf r) m) → r .held < room r (H b)
+    → T (formed1b m) → T (formed2a (graphOf r) m) → r .held < room r (H b)
     → NotRefused H r b buffer
 
 -- ---- "a report that is always undecided"

@@ -7,12 +7,11 @@ use places::sets::has_place;
 use places::sets::larger;
 use places::sets::without_first;
 ghost use mathlib.Core.Path.{_≡_};
-ghost use mathlib.Core.Bool.{_&&_};
 ghost use Prim.Native.Nat.{ℕ, _≤_, _<_};
 ghost use lib.ListN.{length, getD};
 ghost use Rattle.base.specs.Tests.{any, below};
-ghost use Rattle.places.specs.PlaceSets.{inSet, Whole, Covers};
-ghost use Rattle.scan.specs.Arrays.{Beneath, isOffer, isCrowding};
+ghost use Rattle.places.specs.PlaceSets.{Whole, Covers};
+ghost use Rattle.scan.specs.Arrays.{Beneath, isCrowding};
 
 pub fn under<'a>(
     low: &'a [u64],
@@ -43,22 +42,6 @@ pub fn under<'a>(
         ballot,
         offered,
     }
-}
-
-// Whether a proposal is among the places of a set; the walk has each such place.
-pub fn is_grounded(kinds: &[u8], n: usize, low: u64, high: u64, walk: Places) -> bool
-    requires { ⌜ (n ≤ 128) × (Whole (now kinds) × Covers n (λ j. inSet low high j && isOffer (now kinds) j) (walk .low) (walk .high)) ⌝ }
-    ensures { λ r. ⌜ r ≡ any (λ j. inSet low high j && isOffer (now (kinds .entry)) j) (below n) ⌝ }
-{
-    let mut found = false;
-    let mut rest = walk;
-    let mut j: usize = first_in(rest.low, rest.high, n);
-    while j < n {
-        found = (has_place(low, high, j) & (kinds[j] == 1)) | found;
-        rest = without_first(rest.low, rest.high);
-        j = first_in(rest.low, rest.high, n);
-    }
-    found
 }
 
 // Whether place j is in the set and holds an acceptor message of this ballot and another name.

@@ -14,6 +14,7 @@ mod watched;
 use crate::tally::Tally;
 use crate::Settings;
 use agreement::Met;
+use reference::refusal::STRUCK;
 use watched::{Counts, Referee};
 
 /// How many rounds run on random sites; fewer while the model runs alone.
@@ -25,7 +26,7 @@ const LEAST: u64 = if cfg!(feature = "rounds") { 100 } else { 1 };
 /// What the lines say of a run without the library.
 const ALONE: &str = if cfg!(feature = "rounds") { "" } else { ", the model alone" };
 
-/// Every number but 13, which no message can reach.
+/// Every number of the table.
 const OF_OPENED: [usize; 17] = [0, 1, 2, 3, 4, 5, 6, 7, 8, 9, 10, 11, 12, 14, 15, 16, 17];
 /// 5, 6 and 7 are about graph files.
 const OF_HANDED_IN: [usize; 14] = [0, 1, 2, 3, 4, 8, 9, 10, 11, 12, 14, 15, 16, 17];
@@ -66,6 +67,7 @@ pub fn run(settings: &Settings) -> Tally {
 /// Says what the calls on some rounds met, and checks that they met enough.
 fn tell(counts: &Counts, which: &str, wanted: &[usize], tally: &mut Tally) {
     counts.reached.line("rounds", which, wanted, LEAST, tally);
+    counts.answered.never("rounds", which, STRUCK, tally);
     let Counts { deliveries, accepted, returned, replies, longest, reports, .. } = counts;
     let [undecided, decided, split] = counts.outcomes;
     println!("rounds: {which}: {deliveries} deliveries, {accepted} accepted, {returned} of these returning; {replies} replies of up to {longest} bytes");

@@ -58,6 +58,8 @@ mod linked {
 
     pub struct Judged {
         round: Lent,
+        /// What the library answered last; 0 before it was asked.
+        answer: u32,
     }
 
     impl Judged {
@@ -76,7 +78,7 @@ mod linked {
                 .and_then(|()| buffer_agrees("graph", &lent, file))
                 .and_then(|()| round_agrees(&round, foretold.as_deref().unwrap_or(&[])))
                 .and_then(|()| Self::open_short(random, file, (house, bay, own)));
-            (Some(Judged { round }), verdict)
+            (Some(Judged { round, answer: number }), verdict)
         }
 
         /// A round's buffer that is too short is 17, whatever else is wrong.
@@ -94,7 +96,11 @@ mod linked {
         /// Lends the bytes of a round that no opening need have led to.
         pub fn hand_in(random: &mut Random, bytes: &[u8]) -> Option<Self> {
             let room = ROUND_LEN + random.below(8);
-            Some(Judged { round: Lent::holding(random, bytes, room) })
+            Some(Judged { round: Lent::holding(random, bytes, room), answer: 0 })
+        }
+
+        pub fn answer(&self) -> u32 {
+            self.answer
         }
 
         /// The model foretells the answer and the bytes of the round after it.
@@ -107,6 +113,7 @@ mod linked {
             let mut lent = Lent::holding(random, message, message.len());
             let mut reply = Lent::new(random, room);
             let number = library::deliver(self.round.window(), lent.window(), reply.window());
+            self.answer = number;
             let (expected, front) = match foretold.0 {
                 Err(refusal) => (refusal.number(), &[][..]),
                 Ok(None) => (0, &[][..]),
@@ -139,6 +146,7 @@ mod linked {
         ) -> Verdict {
             let mut out = Lent::new(random, room);
             let number = library::report(self.round.window(), learner, out.window());
+            self.answer = number;
             let front = foretold.0.map_or(Vec::new(), Report::bytes);
             numbers_agree(number, answer(foretold.0))?;
             buffer_agrees("report", &out, &front)?;
@@ -169,6 +177,10 @@ mod unlinked {
 
         pub fn hand_in(_random: &mut Random, _bytes: &[u8]) -> Option<Self> {
             None
+        }
+
+        pub fn answer(&self) -> u32 {
+            match *self {}
         }
 
         pub fn deliver(

@@ -24,7 +24,10 @@ pub struct Referee {
 
 #[derive(Default)]
 pub struct Counts {
+    /// What the model answered.
     pub reached: Reached,
+    /// What the library answered.
+    pub answered: Reached,
     pub rounds: u64,
     /// How many rounds passed row 17.
     pub taken: u64,
@@ -71,6 +74,13 @@ impl Counts {
         self.taken += u64::from(taken);
     }
 
+    /// Counts the library's last answer.
+    fn count_answer(&mut self, judged: &Option<Judged>) {
+        if let Some(judged) = judged {
+            self.answered.count(judged.answer());
+        }
+    }
+
     fn count_delivery(&mut self, outcome: &Result<Delivery, Refusal>) {
         self.deliveries += 1;
         self.reached.count(answer(outcome));
@@ -114,6 +124,7 @@ impl Watched {
         let bytes = model.as_ref().map(layout::opened).map_err(|refusal| *refusal);
         let (judged, verdict) = Judged::open(&mut referee.random, file, (house, bay, own), &bytes);
         referee.opened.reached.count(answer(&model));
+        referee.opened.count_answer(&judged);
         let agreed = verdict.is_ok();
         referee.tally.judge(verdict, || format!("opening {file:02x?} as {own:?}"));
         let bytes = bytes?;
@@ -152,6 +163,7 @@ impl Watched {
             if random.once_in(50) {
                 verdict = verdict.and_then(|()| judged.ask_short(random, message, &self.bytes));
             }
+            referee.counts(self.origin).count_answer(&self.judged);
             self.settle(referee, verdict, |round| {
                 format!("delivery of {message:02x?} to {round} that held {held}")
             });
@@ -174,6 +186,7 @@ impl Watched {
         if let Some(judged) = &mut self.judged {
             let foretold = (&outcome, &self.bytes[..]);
             let verdict = judged.report(&mut referee.random, (learner, room), foretold);
+            referee.counts(self.origin).count_answer(&self.judged);
             self.settle(referee, verdict, |round| format!("report of {round} for {learner}"));
         }
         outcome

@@ -76,7 +76,7 @@ extended-requires c κs =
     let before = pre .1 .1 .1 .0 in
     let lens = pre .1 .1 .1 .1 .1 .0 in
     let l = names-lent w b ns ks lent kn kk in
-    let marks = marks-named (a .n) (a .kinds .now) (a .signers .now) (x .names) (a .previous .now) (x .forklow) (x .forkhigh) (x .tops) (x .forms) (x .keylow) (x .keyhigh) (x .forkedlow) (x .forkedhigh) (named .result) (before .held) (before .named) (pre .1 .1 .1 .1 .1 .1 .1 .1 .1) in (
+    let marks = marks-named (a .n) (a .signers .now) (x .names) (a .previous .now) (x .forklow) (x .forkhigh) (x .tops) (x .forms) (x .keylow) (x .keyhigh) (x .forkedlow) (x .forkedhigh) (named .result) (before .held) (before .named) (pre .1 .1 .1 .1 .1 .1 .1 .1 .1) in (
       omega arith,
       (
         record {
@@ -93,8 +93,8 @@ extended-requires c κs =
         },
         (
           l,
-          subst (MarksIn (a .n) (a .kinds .now) (a .signers .now) (a .previous .now)) (sym e)
-              (subst (λ (y : List ℕ). MarksIn (a .n) (a .kinds .now) (a .signers .now) (a .previous .now) (withNames x y (part 32 ks 0) (part 32 ks 32))) (sym (named .ensures .0)) marks),
+          subst (MarksIn (a .n) (a .signers .now) (a .previous .now)) (sym e)
+              (subst (λ (y : List ℕ). MarksIn (a .n) (a .signers .now) (a .previous .now) (withNames x y (part 32 ks 0) (part 32 ks 32))) (sym (named .ensures .0)) marks),
         ),
       ),
     )

@@ -50,45 +50,42 @@ slice-read-link c =
     omega (arith, c .before .size .ensures .1, ko, lp .inv .1 .0 .1)
 
 shared-slice-read-file-place : tie.Need-shared-slice-read-file-place Inv-loop μ-loop
-shared-slice-read-file-place c = omega (arith, c .before .before .before .before .before .before .before .before .before .before .before .before .before .before .before .before .before .before .loop-test .taken, c .before .before .before .before .before .before .before .before .before .before .before .before .before .before .before .before .before .before .before .before .before .before .before .before .before .before .before .before .before .before .pre .1 .0 .fit .held, c .before .before .before .before .before .before .before .before .before .before .before .before .before .before .before .before .before .before .before .before .before .before .before .before .before .before .before .before .before .before .pre .1 .0 .kindsFit)
-
-shared-slice-read-file-place-2 : tie.Need-shared-slice-read-file-place-2 Inv-loop μ-loop
-shared-slice-read-file-place-2 c = omega (arith, c .before .before .before .before .before .before .before .before .before .before .before .before .before .before .before .before .before .before .before .loop-test .taken, c .before .before .before .before .before .before .before .before .before .before .before .before .before .before .before .before .before .before .before .before .before .before .before .before .before .before .before .before .before .before .before .pre .1 .0 .fit .held, c .before .before .before .before .before .before .before .before .before .before .before .before .before .before .before .before .before .before .before .before .before .before .before .before .before .before .before .before .before .before .before .pre .1 .0 .signersFit)
+shared-slice-read-file-place c = omega (arith, c .before .before .before .before .before .before .before .before .before .before .before .before .before .before .before .before .before .before .loop-test .taken, c .before .before .before .before .before .before .before .before .before .before .before .before .before .before .before .before .before .before .before .before .before .before .before .before .before .before .before .before .before .before .pre .1 .0 .fit .held, c .before .before .before .before .before .before .before .before .before .before .before .before .before .before .before .before .before .before .before .before .before .before .before .before .before .before .before .before .before .before .pre .1 .0 .signersFit)
 
 file-place-requires : tie.Need-file-place-requires Inv-loop μ-loop
 file-place-requires c κs =
-    let down = c .before .before .before .before .before .before .before .before .before .before .before .before .before .note-down in
-    let lp = c .before .before .before .before .before .before .before .before .before .before .before .before .before .before .before .before .before .before .before .before .loop in
+    let down = c .before .before .before .before .before .before .before .before .before .before .before .before .note-down in
+    let lp = c .before .before .before .before .before .before .before .before .before .before .before .before .before .before .before .before .before .before .before .loop in
     let kw : length (down .last .0) ≡ length (lp .words) = down .kept .0 in
     let ko : length (down .last .1 .0) ≡ length (lp .octets) = down .kept .1 .0 in
-    (omega (arith, c .before .before .before .before .before .before .before .before .before .before .before .before .before .before .before .before .before .before .before .loop-test .taken, c .before .before .before .before .before .before .before .before .before .before .before .before .before .before .before .before .before .before .before .before .before .before .before .before .before .before .before .before .before .before .before .pre .1 .0 .fit .held), kw ∙ lp .inv .1 .0 .0)
+    (omega (arith, c .before .before .before .before .before .before .before .before .before .before .before .before .before .before .before .before .before .before .loop-test .taken, c .before .before .before .before .before .before .before .before .before .before .before .before .before .before .before .before .before .before .before .before .before .before .before .before .before .before .before .before .before .before .pre .1 .0 .fit .held), kw ∙ lp .inv .1 .0 .0)
 
 add-p : tie.Need-add-p Inv-loop μ-loop
-add-p c = omega (arith, c .before .before .before .before .before .before .before .before .before .before .before .before .before .before .before .before .before .before .before .before .before .before .loop-test .taken, c .before .before .before .before .before .before .before .before .before .before .before .before .before .before .before .before .before .before .before .before .before .before .before .before .before .before .before .before .before .before .before .before .before .before .pre .1 .0 .fit .held)
+add-p c = omega (arith, c .before .before .before .before .before .before .before .before .before .before .before .before .before .before .before .before .before .before .before .before .before .loop-test .taken, c .before .before .before .before .before .before .before .before .before .before .before .before .before .before .before .before .before .before .before .before .before .before .before .before .before .before .before .before .before .before .before .before .before .pre .1 .0 .fit .held)
 
 loop-less : tie.Need-loop-less Inv-loop μ-loop
-loop-less c = omega (arith, c .before .before .before .before .before .before .before .before .before .before .before .before .before .before .before .before .before .before .before .before .before .before .loop-test .taken)
+loop-less c = omega (arith, c .before .before .before .before .before .before .before .before .before .before .before .before .before .before .before .before .before .before .before .before .before .loop-test .taken)
 
 loop-again : tie.Need-loop-again Inv-loop μ-loop
 loop-again c =
-    let a = c .before .before .before .before .before .before .before .before .before .before .before .before .before .before .before .before .before .before .before .before .before .before .before .before .before .before .before .before .before .before .before .before .before .before .args in
-    let fit = c .before .before .before .before .before .before .before .before .before .before .before .before .before .before .before .before .before .before .before .before .before .before .before .before .before .before .before .before .before .before .before .before .before .before .pre .1 .0 .fit in
-    let down = c .before .before .before .before .before .before .before .before .before .before .before .before .before .before .before .before .note-down in
-    let lp = c .before .before .before .before .before .before .before .before .before .before .before .before .before .before .before .before .before .before .before .before .before .before .before .loop in
+    let a = c .before .before .before .before .before .before .before .before .before .before .before .before .before .before .before .before .before .before .before .before .before .before .before .before .before .before .before .before .before .before .before .before .before .args in
+    let fit = c .before .before .before .before .before .before .before .before .before .before .before .before .before .before .before .before .before .before .before .before .before .before .before .before .before .before .before .before .before .before .before .before .before .pre .1 .0 .fit in
+    let down = c .before .before .before .before .before .before .before .before .before .before .before .before .before .before .before .note-down in
+    let lp = c .before .before .before .before .before .before .before .before .before .before .before .before .before .before .before .before .before .before .before .before .before .before .loop in
     let kw : length (down .last .0) ≡ length (lp .words) = down .kept .0 in
     let ko : length (down .last .1 .0) ≡ length (lp .octets) = down .kept .1 .0 in
-    let go = c .before .before .before .before .before .before .before .before .before .before .before .before .before .before .before .before .before .before .before .before .before .before .loop-test .taken in
+    let go = c .before .before .before .before .before .before .before .before .before .before .before .before .before .before .before .before .before .before .before .before .before .loop-test .taken in
     let few : lp .p < 128 = omega (arith, go, fit .held) in
-    let r = c .before .before .before .before .before .before .before .before .before .before .before .before .before .before .before .before .before .before .before .note-held .result in
-    let s = c .before .before .before .before .before .before .before .size in
+    let r = c .before .before .before .before .before .before .before .before .before .before .before .before .before .before .before .before .before .before .note-held .result in
+    let s = c .before .before .before .before .before .before .size in
     let x = notesIn (lp .words) (lp .octets) in
     let y = notesIn (c .before .before .file-place .last .0) (down .last .1 .0) in
     let kv : length (c .before .before .file-place .last .0) ≡ length (down .last .0) = c .before .before .file-place .kept .0 in
     let rooms = rooms-in (lp .words) (lp .octets) (lp .inv .1 .0) in
     let old = lp .inv .1 .1 in
     let link = getD (down .last .1 .0) (s .result) 0 in
-    let filed : FiledIn (withNote x r (lp .p)) y (getD (a .kinds .now) (lp .p) 0) (getD (a .signers .now) (lp .p) 0) link (r .ballot) (r .form) (not (eqb (r .forks .low) 0) || not (eqb (r .forks .high) 0)) (lp .p) =
-    subst (λ (z : Notes). FiledIn z y (getD (a .kinds .now) (lp .p) 0) (getD (a .signers .now) (lp .p) 0) link (r .ballot) (r .form) (not (eqb (r .forks .low) 0) || not (eqb (r .forks .high) 0)) (lp .p)) (down .ensures) (c .before .before .file-place .ensures (down .last .1 .0)) in
+    let filed : FiledIn (withNote x r (lp .p)) y (getD (a .signers .now) (lp .p) 0) link (r .ballot) (r .form) (not (eqb (r .forks .low) 0) || not (eqb (r .forks .high) 0)) (lp .p) =
+    subst (λ (z : Notes). FiledIn z y (getD (a .signers .now) (lp .p) 0) link (r .ballot) (r .form) (not (eqb (r .forks .low) 0) || not (eqb (r .forks .high) 0)) (lp .p)) (down .ensures) (c .before .before .file-place .ensures (down .last .1 .0)) in
     let named-link : link ≡ getD (x .names) (getD (a .previous .now) (lp .p) 0) 0 =
     link-kept (down .last .0) (down .last .1 .0) x r (lp .p) (s .result) (down .ensures) (s .ensures .1) ∙ ap (λ (i : ℕ). getD (x .names) i 0) (s .ensures .0) in (
       omega (arith, go),
@@ -101,7 +98,7 @@ loop-again c =
           marked = marks-next (a .kinds .now) (a .signers .now) x y r (lp .p) link rooms few filed (a .previous .now) named-link (old .marked);
           known = λ ids named kn. let before = old .known ids named kn in
               known-next (a .kinds .now) (a .signers .now) x y r (lp .p) link rooms few filed (heldGraph (a .acceptors) (a .l) (a .lists .now) (a .masks .now)) ids (a .ballots .now) (a .previous .now) (a .counts .now) (a .references .now) (a .n) fit go
-              (c .before .before .before .before .before .before .before .before .before .before .before .before .before .before .before .before .before .before .before .note-held .ensures ids (subst (λ (l : List ℕ). Named ids (a .n) l) (sym (old .names)) named) before) before;
+              (c .before .before .before .before .before .before .before .before .before .before .before .before .before .before .before .before .before .before .note-held .ensures ids (subst (λ (l : List ℕ). Named ids (a .n) l) (sym (old .names)) named) before) before;
         },
       ),
     )
@@ -134,7 +131,6 @@ extended-spec =
     size-requires
     slice-read-link
     shared-slice-read-file-place
-    shared-slice-read-file-place-2
     file-place-requires
     add-p
     loop-less

@@ -44,13 +44,13 @@ mul-words : tie.Need-mul-words
 mul-words c = search needs
 
 slice-write-words-2 : tie.Need-slice-write-words-2
-slice-write-words-2 c = let w = c .before .before .before .before .before .before .before .before .args .words .now in let k : length (c .before .before .before .before .before .mark .last .0) ≡ length (part 144 w 704) = c .before .before .before .before .before .mark .kept .0 in simp length-set (omega (arith, back-long w (c .before .before .before .before .before .mark .last .0) (c .before .before .before .before .before .before .before .before .pre .1) k))
+slice-write-words-2 c = let w = c .before .before .before .before .before .before .before .before .args .words .now in let k : length (c .before .before .before .before .before .mark .last .0) ≡ length (part 136 w 704) = c .before .before .before .before .before .mark .kept .0 in simp length-set (omega (arith, back-long w (c .before .before .before .before .before .mark .last .0) (c .before .before .before .before .before .before .before .before .pre .1) k))
 
 same-length : tie.Need-same-length
 same-length c = search needs
 
 returns : tie.Need-returns
-returns c = let w = c .before .before .before .before .before .before .before .before .args .words .now in let k : length (c .before .before .before .before .before .mark .last .0) ≡ length (part 144 w 704) = c .before .before .before .before .before .mark .kept .0 in let a = c .before .before .before .before .before .before .before .before .args in λ b. filed w (c .before .before .before .before .before .mark .last .0) (c .before .before .before .before .before .before .before .before .pre .1) k b (c .with-place .result .low) (c .with-place .result .high) (a .kind) (a .signer) (a .link) (a .ballot) (a .form) (a .p) (a .forks) (c .before .before .before .before .before .mark .ensures) (c .with-place .ensures)
+returns c = let w = c .before .before .before .before .before .before .before .before .args .words .now in let k : length (c .before .before .before .before .before .mark .last .0) ≡ length (part 136 w 704) = c .before .before .before .before .before .mark .kept .0 in let a = c .before .before .before .before .before .before .before .before .args in λ b. filed w (c .before .before .before .before .before .mark .last .0) (c .before .before .before .before .before .before .before .before .pre .1) k b (c .with-place .result .low) (c .with-place .result .high) (a .signer) (a .link) (a .ballot) (a .form) (a .p) (a .forks) (c .before .before .before .before .before .mark .ensures) (c .with-place .ensures)
 
 pub file-place-spec : {M : Type 1} → statement M
 file-place-spec =

@@ -51,7 +51,7 @@ extended-requires c κs =
     let e = names-back w b ns ks lent kn kk in
     let lens = pre .1 .1 .1 .1 .0 in
     let l = names-lent w b ns ks lent kn kk in
-    let none = marks-none (a .kinds .now) (a .signers .now) ns (a .previous .now) _ _ _ _ _ _ _ _ (part-length keys w 704 (omega (arith, lent .0))) (part-length keys w 776 (omega (arith, lent .0))) in (
+    let none = marks-none (a .signers .now) ns (a .previous .now) _ _ _ _ _ _ _ _ (part-length keys w 704 (omega (arith, lent .0))) (part-length keys w 772 (omega (arith, lent .0))) in (
       omega arith,
       (
         record {
@@ -66,7 +66,7 @@ extended-requires c κs =
           countsFit = lens .countsFit;
           referencesFit = lens .referencesFit;
         },
-        (l, subst (MarksIn 0 (a .kinds .now) (a .signers .now) (a .previous .now)) (sym e) none),
+        (l, subst (MarksIn 0 (a .signers .now) (a .previous .now)) (sym e) none),
       ),
     )
 

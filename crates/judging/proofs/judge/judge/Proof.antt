@@ -102,7 +102,7 @@ part-note-new-start-7 : tie.Need-part-note-new-start-7
 part-note-new-start-7 c = search needs
 
 part-note-new-end-7 : tie.Need-part-note-new-end-7
-part-note-new-end-7 c = room (c .before .before .before .before .before .before .before .before .before .before .before .before .before .before .before .before .before .before .before .args .words .now) 850 128 (c .before .before .before .before .before .before .before .before .before .before .before .before .before .before .before .before .before .before .before .pre .1 .1 .1 .0 .0 .0) (omega arith)
+part-note-new-end-7 c = room (c .before .before .before .before .before .before .before .before .before .before .before .before .before .before .before .before .before .before .before .args .words .now) 842 128 (c .before .before .before .before .before .before .before .before .before .before .before .before .before .before .before .before .before .before .before .pre .1 .1 .1 .0 .0 .0) (omega arith)
 
 sub-note-new-8 : tie.Need-sub-note-new-8
 sub-note-new-8 c = search needs
@@ -111,7 +111,7 @@ part-note-new-start-8 : tie.Need-part-note-new-start-8
 part-note-new-start-8 c = search needs
 
 part-note-new-end-8 : tie.Need-part-note-new-end-8
-part-note-new-end-8 c = room (c .before .before .before .before .before .before .before .before .before .before .before .before .before .before .before .before .before .before .before .before .args .words .now) 850 256 (c .before .before .before .before .before .before .before .before .before .before .before .before .before .before .before .before .before .before .before .before .pre .1 .1 .1 .0 .0 .0) (omega arith)
+part-note-new-end-8 c = room (c .before .before .before .before .before .before .before .before .before .before .before .before .before .before .before .before .before .before .before .before .args .words .now) 842 256 (c .before .before .before .before .before .before .before .before .before .before .before .before .before .before .before .before .before .before .before .before .pre .1 .1 .1 .0 .0 .0) (omega arith)
 
 sub-note-new-9 : tie.Need-sub-note-new-9
 sub-note-new-9 c = search needs
@@ -120,7 +120,7 @@ part-note-new-start-9 : tie.Need-part-note-new-start-9
 part-note-new-start-9 c = search needs
 
 part-note-new-end-9 : tie.Need-part-note-new-end-9
-part-note-new-end-9 c = room (c .before .before .before .before .before .before .before .before .before .before .before .before .before .before .before .before .before .before .before .before .before .args .words .now) 850 384 (c .before .before .before .before .before .before .before .before .before .before .before .before .before .before .before .before .before .before .before .before .before .pre .1 .1 .1 .0 .0 .0) (omega arith)
+part-note-new-end-9 c = room (c .before .before .before .before .before .before .before .before .before .before .before .before .before .before .before .before .before .before .before .before .before .args .words .now) 842 384 (c .before .before .before .before .before .before .before .before .before .before .before .before .before .before .before .before .before .before .before .before .before .pre .1 .1 .1 .0 .0 .0) (omega arith)
 
 sub-note-new-10 : tie.Need-sub-note-new-10
 sub-note-new-10 c = search needs
@@ -129,7 +129,7 @@ part-note-new-start-10 : tie.Need-part-note-new-start-10
 part-note-new-start-10 c = search needs
 
 part-note-new-end-10 : tie.Need-part-note-new-end-10
-part-note-new-end-10 c = room (c .before .before .before .before .before .before .before .before .before .before .before .before .before .before .before .before .before .before .before .before .before .before .args .words .now) 850 512 (c .before .before .before .before .before .before .before .before .before .before .before .before .before .before .before .before .before .before .before .before .before .before .pre .1 .1 .1 .0 .0 .0) (omega arith)
+part-note-new-end-10 c = room (c .before .before .before .before .before .before .before .before .before .before .before .before .before .before .before .before .before .before .before .before .before .before .args .words .now) 842 512 (c .before .before .before .before .before .before .before .before .before .before .before .before .before .before .before .before .before .before .before .before .before .before .pre .1 .1 .1 .0 .0 .0) (omega arith)
 
 sub-note-new-11 : tie.Need-sub-note-new-11
 sub-note-new-11 c = search needs
@@ -138,7 +138,7 @@ part-note-new-start-11 : tie.Need-part-note-new-start-11
 part-note-new-start-11 c = search needs
 
 part-note-new-end-11 : tie.Need-part-note-new-end-11
-part-note-new-end-11 c = room (c .before .before .before .before .before .before .before .before .before .before .before .before .before .before .before .before .before .before .before .before .before .before .before .args .words .now) 850 640 (c .before .before .before .before .before .before .before .before .before .before .before .before .before .before .before .before .before .before .before .before .before .before .before .pre .1 .1 .1 .0 .0 .0) (omega arith)
+part-note-new-end-11 c = room (c .before .before .before .before .before .before .before .before .before .before .before .before .before .before .before .before .before .before .before .before .before .before .before .args .words .now) 842 640 (c .before .before .before .before .before .before .before .before .before .before .before .before .before .before .before .before .before .before .before .before .before .before .before .pre .1 .1 .1 .0 .0 .0) (omega arith)
 
 sub-note-new-12 : tie.Need-sub-note-new-12
 sub-note-new-12 c = search needs
@@ -174,7 +174,7 @@ part-note-new-start-15 : tie.Need-part-note-new-start-15
 part-note-new-start-15 c = search needs
 
 part-note-new-end-15 : tie.Need-part-note-new-end-15
-part-note-new-end-15 c = room (c .before .before .before .before .before .before .before .before .before .before .before .before .before .before .before .before .before .before .before .before .before .before .before .before .before .before .before .args .words .now) 850 672 (c .before .before .before .before .before .before .before .before .before .before .before .before .before .before .before .before .before .before .before .before .before .before .before .before .before .before .before .pre .1 .1 .1 .0 .0 .0) (omega arith)
+part-note-new-end-15 c = room (c .before .before .before .before .before .before .before .before .before .before .before .before .before .before .before .before .before .before .before .before .before .before .before .before .before .before .before .args .words .now) 842 672 (c .before .before .before .before .before .before .before .before .before .before .before .before .before .before .before .before .before .before .before .before .before .before .before .before .before .before .before .pre .1 .1 .1 .0 .0 .0) (omega arith)
 
 sub-note-new-16 : tie.Need-sub-note-new-16
 sub-note-new-16 c = search needs
@@ -183,7 +183,7 @@ part-note-new-start-16 : tie.Need-part-note-new-start-16
 part-note-new-start-16 c = search needs
 
 part-note-new-end-16 : tie.Need-part-note-new-end-16
-part-note-new-end-16 c = room (c .before .before .before .before .before .before .before .before .before .before .before .before .before .before .before .before .before .before .before .before .before .before .before .before .before .before .before .before .args .words .now) 850 704 (c .before .before .before .before .before .before .before .before .before .before .before .before .before .before .before .before .before .before .before .before .before .before .before .before .before .before .before .before .pre .1 .1 .1 .0 .0 .0) (omega arith)
+part-note-new-end-16 c = room (c .before .before .before .before .before .before .before .before .before .before .before .before .before .before .before .before .before .before .before .before .before .before .before .before .before .before .before .before .args .words .now) 842 704 (c .before .before .before .before .before .before .before .before .before .before .before .before .before .before .before .before .before .before .before .before .before .before .before .before .before .before .before .before .pre .1 .1 .1 .0 .0 .0) (omega arith)
 
 sub-note-new-17 : tie.Need-sub-note-new-17
 sub-note-new-17 c = search needs
@@ -192,7 +192,7 @@ part-note-new-start-17 : tie.Need-part-note-new-start-17
 part-note-new-start-17 c = search needs
 
 part-note-new-end-17 : tie.Need-part-note-new-end-17
-part-note-new-end-17 c = room (c .before .before .before .before .before .before .before .before .before .before .before .before .before .before .before .before .before .before .before .before .before .before .before .before .before .before .before .before .before .args .words .now) 850 776 (c .before .before .before .before .before .before .before .before .before .before .before .before .before .before .before .before .before .before .before .before .before .before .before .before .before .before .before .before .before .pre .1 .1 .1 .0 .0 .0) (omega arith)
+part-note-new-end-17 c = room (c .before .before .before .before .before .before .before .before .before .before .before .before .before .before .before .before .before .before .before .before .before .before .before .before .before .before .before .before .before .args .words .now) 842 772 (c .before .before .before .before .before .before .before .before .before .before .before .before .before .before .before .before .before .before .before .before .before .before .before .before .before .before .before .before .before .pre .1 .1 .1 .0 .0 .0) (omega arith)
 
 sub-note-new-18 : tie.Need-sub-note-new-18
 sub-note-new-18 c = search needs
@@ -201,7 +201,7 @@ part-note-new-start-18 : tie.Need-part-note-new-start-18
 part-note-new-start-18 c = search needs
 
 part-note-new-end-18 : tie.Need-part-note-new-end-18
-part-note-new-end-18 c = room (c .before .before .before .before .before .before .before .before .before .before .before .before .before .before .before .before .before .before .before .before .before .before .before .before .before .before .before .before .before .before .args .words .now) 850 848 (c .before .before .before .before .before .before .before .before .before .before .before .before .before .before .before .before .before .before .before .before .before .before .before .before .before .before .before .before .before .before .pre .1 .1 .1 .0 .0 .0) (omega arith)
+part-note-new-end-18 c = room (c .before .before .before .before .before .before .before .before .before .before .before .before .before .before .before .before .before .before .before .before .before .before .before .before .before .before .before .before .before .before .args .words .now) 842 840 (c .before .before .before .before .before .before .before .before .before .before .before .before .before .before .before .before .before .before .before .before .before .before .before .before .before .before .before .before .before .before .pre .1 .1 .1 .0 .0 .0) (omega arith)
 
 note-new-requires : tie.Need-note-new-requires
 unfolding roundIn

@@ -113,7 +113,7 @@ part-report-for-start-8 : tie.Need-part-report-for-start-8
 part-report-for-start-8 c = search needs
 
 part-report-for-end-8 : tie.Need-part-report-for-end-8
-part-report-for-end-8 c = room (c .before .before .before .before .before .before .before .before .before .before .before .before .before .before .before .notes-of .last .1 .1 .0) 850 512 (c .before .before .before .before .before .before .before .before .before .before .before .before .before .before .before .notes-of .ensures .0 .0) (omega arith)
+part-report-for-end-8 c = room (c .before .before .before .before .before .before .before .before .before .before .before .before .before .before .before .notes-of .last .1 .1 .0) 842 512 (c .before .before .before .before .before .before .before .before .before .before .before .before .before .before .before .notes-of .ensures .0 .0) (omega arith)
 
 sub-report-for-9 : tie.Need-sub-report-for-9
 sub-report-for-9 c = search needs
@@ -122,7 +122,7 @@ part-report-for-start-9 : tie.Need-part-report-for-start-9
 part-report-for-start-9 c = search needs
 
 part-report-for-end-9 : tie.Need-part-report-for-end-9
-part-report-for-end-9 c = room (c .before .before .before .before .before .before .before .before .before .before .before .before .before .before .before .before .notes-of .last .1 .1 .0) 850 640 (c .before .before .before .before .before .before .before .before .before .before .before .before .before .before .before .before .notes-of .ensures .0 .0) (omega arith)
+part-report-for-end-9 c = room (c .before .before .before .before .before .before .before .before .before .before .before .before .before .before .before .before .notes-of .last .1 .1 .0) 842 640 (c .before .before .before .before .before .before .before .before .before .before .before .before .before .before .before .before .notes-of .ensures .0 .0) (omega arith)
 
 sub-report-for-10 : tie.Need-sub-report-for-10
 sub-report-for-10 c = search needs
@@ -158,7 +158,7 @@ part-report-for-start-13 : tie.Need-part-report-for-start-13
 part-report-for-start-13 c = search needs
 
 part-report-for-end-13 : tie.Need-part-report-for-end-13
-part-report-for-end-13 c = room (c .before .before .before .before .before .before .before .before .before .before .before .before .before .before .before .before .before .before .before .before .notes-of .last .1 .1 .0) 850 776 (c .before .before .before .before .before .before .before .before .before .before .before .before .before .before .before .before .before .before .before .before .notes-of .ensures .0 .0) (omega arith)
+part-report-for-end-13 c = room (c .before .before .before .before .before .before .before .before .before .before .before .before .before .before .before .before .before .before .before .before .notes-of .last .1 .1 .0) 842 772 (c .before .before .before .before .before .before .before .before .before .before .before .before .before .before .before .before .before .before .before .before .notes-of .ensures .0 .0) (omega arith)
 
 sub-report-for-14 : tie.Need-sub-report-for-14
 sub-report-for-14 c = search needs
@@ -167,7 +167,7 @@ part-report-for-start-14 : tie.Need-part-report-for-start-14
 part-report-for-start-14 c = search needs
 
 part-report-for-end-14 : tie.Need-part-report-for-end-14
-part-report-for-end-14 c = room (c .before .before .before .before .before .before .before .before .before .before .before .before .before .before .before .before .before .before .before .before .before .notes-of .last .1 .1 .0) 850 848 (c .before .before .before .before .before .before .before .before .before .before .before .before .before .before .before .before .before .before .before .before .before .notes-of .ensures .0 .0) (omega arith)
+part-report-for-end-14 c = room (c .before .before .before .before .before .before .before .before .before .before .before .before .before .before .before .before .before .before .before .before .before .notes-of .last .1 .1 .0) 842 840 (c .before .before .before .before .before .before .before .before .before .before .before .before .before .before .before .before .before .before .before .before .before .notes-of .ensures .0 .0) (omega arith)
 
 report-for-requires : tie.Need-report-for-requires
 unfolding roundIn

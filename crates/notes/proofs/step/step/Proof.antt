@@ -17,10 +17,10 @@ walks-for-requires : tie.Need-walks-for-requires
 walks-for-requires c κs = search needs
 
 forking-requires : tie.Need-forking-requires
-forking-requires c κs = let a = c .before .before .before .before .before .before .before .before .before .before .before .before .before .before .before .before .before .before .before .before .args in let pre = c .before .before .before .before .before .before .before .before .before .before .before .before .before .before .before .before .before .before .before .before .pre in let p = pre .0 in let u = c .before .before .under .result in let w = c .before .walks-for in (p .heldFit, (p .kindsFit, (p .signersFit, (p .namesFit, (p .previousFit, covers-forks (a .n) (a .kinds .now) (a .signers .now) (a .names .now) (a .previous .now) (a .fork-low .now) (a .fork-high .now) (a .tops .now) (a .forms .now) (a .key-low .now) (a .key-high .now) (a .forked .low) (a .forked .high) (p .heldFit) (pre .1) (u .low) (u .high) (u .ballot) (a .signer) (a .link) (w .result) (w .ensures) (a .name))))))
+forking-requires c κs = let a = c .before .before .before .before .before .before .before .before .before .before .before .before .before .before .before .before .before .before .before .before .args in let pre = c .before .before .before .before .before .before .before .before .before .before .before .before .before .before .before .before .before .before .before .before .pre in let p = pre .0 in let u = c .before .before .under .result in let w = c .before .walks-for in (p .heldFit, (p .kindsFit, (p .signersFit, (p .namesFit, (p .previousFit, covers-forks (a .n) (a .signers .now) (a .names .now) (a .previous .now) (a .fork-low .now) (a .fork-high .now) (a .tops .now) (a .forms .now) (a .key-low .now) (a .key-high .now) (a .forked .low) (a .forked .high) (p .heldFit) (pre .1) (u .low) (u .high) (u .ballot) (a .signer) (a .link) (w .result) (w .ensures) (a .kinds .now) (a .name))))))
 
 caught-in-requires : tie.Need-caught-in-requires
-caught-in-requires c κs = let a = c .before .before .before .before .before .before .before .before .before .before .before .before .before .before .before .before .before .before .before .before .before .before .args in let pre = c .before .before .before .before .before .before .before .before .before .before .before .before .before .before .before .before .before .before .before .before .before .before .pre in let p = pre .0 in let u = c .before .before .before .before .under .result in let w = c .before .before .before .walks-for in (p .heldFit, (p .signersFit, (p .forkLowFit, (p .forkHighFit, covers-caught (a .n) (a .kinds .now) (a .signers .now) (a .names .now) (a .previous .now) (a .fork-low .now) (a .fork-high .now) (a .tops .now) (a .forms .now) (a .key-low .now) (a .key-high .now) (a .forked .low) (a .forked .high) (p .heldFit) (pre .1) (u .low) (u .high) (u .ballot) (a .signer) (a .link) (w .result) (w .ensures)))))
+caught-in-requires c κs = let a = c .before .before .before .before .before .before .before .before .before .before .before .before .before .before .before .before .before .before .before .before .before .before .args in let pre = c .before .before .before .before .before .before .before .before .before .before .before .before .before .before .before .before .before .before .before .before .before .before .pre in let p = pre .0 in let u = c .before .before .before .before .under .result in let w = c .before .before .before .walks-for in (p .heldFit, (p .signersFit, (p .forkLowFit, (p .forkHighFit, covers-caught (a .n) (a .signers .now) (a .names .now) (a .previous .now) (a .fork-low .now) (a .fork-high .now) (a .tops .now) (a .forms .now) (a .key-low .now) (a .key-high .now) (a .forked .low) (a .forked .high) (p .heldFit) (pre .1) (u .low) (u .high) (u .ballot) (a .signer) (a .link) (w .result) (w .ensures)))))
 
 meet-requires : tie.Need-meet-requires
 meet-requires c κs = search needs
@@ -35,7 +35,7 @@ value-requires : tie.Need-value-requires
 value-requires c κs = search needs
 
 opposing-requires : tie.Need-opposing-requires
-opposing-requires c κs = let a = c .before .before .before .before .before .before .before .before .before .before .before .before .before .before .before .before .before .before .before .before .before .before .before .before .before .before .before .before .before .args in let pre = c .before .before .before .before .before .before .before .before .before .before .before .before .before .before .before .before .before .before .before .before .before .before .before .before .before .before .before .before .before .pre in let p = pre .0 in let u = c .before .before .before .before .before .before .before .before .before .before .before .under .result in let w = c .before .before .before .before .before .before .before .before .before .before .walks-for in let few = p .learnersFit in let k = c .before .before .before .count-if .ensures .1 in (omega (arith, few, k), (p .heldFit, (p .formsFit, (p .learnedFit, (p .signersFit, (p .topsFit, (covers-votes (a .n) (a .kinds .now) (a .signers .now) (a .names .now) (a .previous .now) (a .fork-low .now) (a .fork-high .now) (a .tops .now) (a .forms .now) (a .key-low .now) (a .key-high .now) (a .forked .low) (a .forked .high) (p .heldFit) (pre .1) (u .low) (u .high) (u .ballot) (a .signer) (a .link) (w .result) (w .ensures) (a .learners .now), λ b. covers-rivals (a .n) (a .kinds .now) (a .signers .now) (a .names .now) (a .previous .now) (a .fork-low .now) (a .fork-high .now) (a .tops .now) (a .forms .now) (a .key-low .now) (a .key-high .now) (a .forked .low) (a .forked .high) (p .heldFit) (pre .1) (u .low) (u .high) (u .ballot) (a .signer) (a .link) (w .result) (w .ensures) (a .learners .now) b (c .value .result))))))))
+opposing-requires c κs = let a = c .before .before .before .before .before .before .before .before .before .before .before .before .before .before .before .before .before .before .before .before .before .before .before .before .before .before .before .before .before .args in let pre = c .before .before .before .before .before .before .before .before .before .before .before .before .before .before .before .before .before .before .before .before .before .before .before .before .before .before .before .before .before .pre in let p = pre .0 in let u = c .before .before .before .before .before .before .before .before .before .before .before .under .result in let w = c .before .before .before .before .before .before .before .before .before .before .walks-for in let few = p .learnersFit in let k = c .before .before .before .count-if .ensures .1 in (omega (arith, few, k), (p .heldFit, (p .formsFit, (p .learnedFit, (p .signersFit, (p .topsFit, (covers-votes (a .n) (a .signers .now) (a .names .now) (a .previous .now) (a .fork-low .now) (a .fork-high .now) (a .tops .now) (a .forms .now) (a .key-low .now) (a .key-high .now) (a .forked .low) (a .forked .high) (p .heldFit) (pre .1) (u .low) (u .high) (u .ballot) (a .signer) (a .link) (w .result) (w .ensures) (a .learners .now), λ b. covers-rivals (a .n) (a .signers .now) (a .names .now) (a .previous .now) (a .fork-low .now) (a .fork-high .now) (a .tops .now) (a .forms .now) (a .key-low .now) (a .key-high .now) (a .forked .low) (a .forked .high) (p .heldFit) (pre .1) (u .low) (u .high) (u .ballot) (a .signer) (a .link) (w .result) (w .ensures) (a .learners .now) b (c .value .result))))))))
 
 fresh-for-requires : tie.Need-fresh-for-requires
 fresh-for-requires c κs = let a = c .before .before .before .before .before .before .before .before .before .before .before .before .before .before .before .before .before .before .before .before .before .before .before .before .before .before .before .before .before .before .args in let pre = c .before .before .before .before .before .before .before .before .before .before .before .before .before .before .before .before .before .before .before .before .before .before .before .before .before .before .before .before .before .before .pre in let p = pre .0 in let u = c .before .before .before .before .before .before .before .before .before .before .before .before .under .result in let w = c .before .before .before .before .before .before .before .before .before .before .before .walks-for in let few = p .learnersFit in let k = c .before .before .before .before .count-if .ensures .1 in (omega (arith, few, k), (few, p .sized))
@@ -44,7 +44,7 @@ count-if-requires-2 : tie.Need-count-if-requires-2
 count-if-requires-2 c κs = search needs
 
 learners-for-requires : tie.Need-learners-for-requires
-learners-for-requires c κs = let a = c .before .before .before .before .before .before .before .before .before .before .before .before .before .before .before .before .before .before .before .before .before .before .before .before .before .before .before .before .before .before .before .before .before .before .args in let pre = c .before .before .before .before .before .before .before .before .before .before .before .before .before .before .before .before .before .before .before .before .before .before .before .before .before .before .before .before .before .before .before .before .before .before .pre in let p = pre .0 in let u = c .before .before .before .before .before .before .before .before .before .before .before .before .before .before .before .before .under .result in let w = c .before .before .before .before .before .before .before .before .before .before .before .before .before .before .before .walks-for in let few = p .learnersFit in let k = c .before .count-if2 .ensures .1 in (p .acceptorsFit, (p .sized, (omega (arith, few, k), (p .heldFit, (p .formsFit, (p .freshFit, (p .topsFit, (p .signersFit, covers-backers (a .n) (a .kinds .now) (a .signers .now) (a .names .now) (a .previous .now) (a .fork-low .now) (a .fork-high .now) (a .tops .now) (a .forms .now) (a .key-low .now) (a .key-high .now) (a .forked .low) (a .forked .high) (p .heldFit) (pre .1) (u .low) (u .high) (u .ballot) (w .result .backers .low) (w .result .backers .high) (w .ensures .backing) (a .fresh .now)))))))))
+learners-for-requires c κs = let a = c .before .before .before .before .before .before .before .before .before .before .before .before .before .before .before .before .before .before .before .before .before .before .before .before .before .before .before .before .before .before .before .before .before .before .args in let pre = c .before .before .before .before .before .before .before .before .before .before .before .before .before .before .before .before .before .before .before .before .before .before .before .before .before .before .before .before .before .before .before .before .before .before .pre in let p = pre .0 in let u = c .before .before .before .before .before .before .before .before .before .before .before .before .before .before .before .before .under .result in let w = c .before .before .before .before .before .before .before .before .before .before .before .before .before .before .before .walks-for in let few = p .learnersFit in let k = c .before .count-if2 .ensures .1 in (p .acceptorsFit, (p .sized, (omega (arith, few, k), (p .heldFit, (p .formsFit, (p .freshFit, (p .topsFit, (p .signersFit, covers-backers (a .n) (a .signers .now) (a .names .now) (a .previous .now) (a .fork-low .now) (a .fork-high .now) (a .tops .now) (a .forms .now) (a .key-low .now) (a .key-high .now) (a .forked .low) (a .forked .high) (p .heldFit) (pre .1) (u .low) (u .high) (u .ballot) (w .result .backers .low) (w .result .backers .high) (w .ensures .backing) (a .fresh .now)))))))))
 
 form-of-requires : tie.Need-form-of-requires
 form-of-requires c κs = search needs
