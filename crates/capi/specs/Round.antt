@@ -21,7 +21,7 @@ use Rattle.round.specs.declared.Report.the-variants as answer
 use Rattle.round.specs.Limits.{listening}
 use Rattle.round.specs.Handed.{fits}
 use Rattle.round.specs.Lists.{Call, deliver, report, lastRound}
-use Rattle.round.specs.Demands.{Starts, GroundedIn, SameIn}
+use Rattle.round.specs.Demands.{Starts, GroundedIn, SameRowIn}
 use Rattle.roundbytes.specs.Layout.{roundLen, roundIn}
 use Rattle.engine.specs.Calls as call
 use Rattle.engine.specs.Calls.{deliverTo, replyTo}
@@ -97,7 +97,7 @@ ReportRefused = (round : List ℕ) (learner : ℕ) (buffer : List ℕ) → repor
 -- why row 13 could be struck, whatever bytes are handed in as a round: where row 17 lets them pass, a proposal lies beneath each acceptor message whose
 -- references are known, and "growers see the same acceptances as before"
 abbrev pub StruckInBytes : Type 0
-StruckInBytes = (round : List ℕ) → Octets round → roundLen ≤ length round → T (fits (roundIn round)) → GroundedIn sha256 (roundIn round) × SameIn sha256 (roundIn round)
+StruckInBytes = (round : List ℕ) → Octets round → roundLen ≤ length round → T (fits (roundIn round)) → GroundedIn sha256 (roundIn round) × SameRowIn sha256 (roundIn round)
 
 -- "strike 13 from code and table, and do not use the number again": no call on a round answers it
 abbrev pub StruckNeverAnswered : Type 0

@@ -51,9 +51,13 @@ graphOfHeld n l h = record { acceptors = n; learners = l; counts = h .counts; ma
 abbrev pub refusedReading : Answer → Reading
 refusedReading r = record { answer = r; graph = graphOfHeld 0 0 nothing }
 
+-- a graph that is accepted, or why it is not
+abbrev pub answeredReading : Graph → Answer → Reading
+answeredReading g Accepted = record { answer = Accepted; graph = g }
+answeredReading g (Refused r) = refusedReading (Refused r)
+
 abbrev pub graphReading : Contents → Answer → Reading
-graphReading f Accepted = record { answer = Accepted; graph = graphOfHeld (f .acceptors) (f .learners) (heldOf f) }
-graphReading f (Refused r) = refusedReading (Refused r)
+graphReading f a = answeredReading (graphOfHeld (f .acceptors) (f .learners) (heldOf f)) a
 
 -- "6 and 7 come last"
 abbrev pub contentsReading : Got Contents → Reading
@@ -67,13 +71,8 @@ readingOf s = contentsReading (contents s)
 -- ---- what the steps of `read` answer
 -- rows 1 to 5 alone
 abbrev pub heldReading : Got Contents → Reading
-heldReading (got f at) = record { answer = Accepted; graph = graphOfHeld (f .acceptors) (f .learners) (heldOf f) }
+heldReading (got f at) = graphReading f Accepted
 heldReading (no r) = refusedReading (Refused r)
-
--- a graph that is accepted, or why it is not
-abbrev pub answeredReading : Graph → Answer → Reading
-answeredReading g Accepted = record { answer = Accepted; graph = g }
-answeredReading g (Refused r) = refusedReading (Refused r)
 
 -- what stands before the lists is in order, and the file is what the lists behind it are; or why the file is turned down there
 abbrev pub HeadOf : List ℕ → Answer → Type 0

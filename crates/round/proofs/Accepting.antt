@@ -1,14 +1,13 @@
 -- What is known of a message that no row turns down, a proposal or an acceptor message, before it is entered.
 use mathlib.Core.Path.{_≡_, refl, sym, ap, _∙_}
 use mathlib.Core.Logic.{_≢_}
-use mathlib.Core.Bool.{not}
 use mathlib.Core.Option.{none}
 use mathlib.Core.List.{List}
 use Prim.Native.Nat.{ℕ, zero, suc, _+_, _<_, _≤_}
 use native.Mathlib.Omega.{arith}
 use lib.Dec.{T, le→leb}
 use lib.ListN.{length, length-map}
-use Rattle.base.specs.Tests.{_∈_, all}
+use Rattle.base.specs.Tests.{_∈_}
 use Rattle.base.specs.declared.refusal.Refusal.{Refusal}
 use Rattle.message.specs.Layout as layout
 use Rattle.message.specs.Reader.{reading}
@@ -23,7 +22,7 @@ use Rattle.protocol.specs.Table.{Held, offers, heldId, heldPrevious, offered, p
 use Rattle.round.specs.Round.{Round}
 use Rattle.round.specs.Limits.{maxHeld}
 use Rattle.round.specs.Held.{isKnown, tableOf, placeOf}
-use Rattle.round.specs.Rows.{idsFrom, referenceIds, previousId, orZero, isKnownId, lacks, voteRecord, messageOf, proposalRows, acceptorRows, firstOf}
+use Rattle.round.specs.Rows.{idsFrom, referenceIds, previousId, orZero, voteRecord, messageOf, proposalRows, acceptorRows, firstOf}
 use Rattle.round.specs.Demands.{IdRule}
 use Rattle.round.proofs.Step.{contentRead, contentIn, Records}
 use Rattle.round.proofs.Named.{place-some, place-canonical}
@@ -32,7 +31,7 @@ use Rattle.round.proofs.Written.{counted}
 use Rattle.round.proofs.Records.{table-ids}
 use Rattle.round.proofs.Marking.{previous-fits, previous-named}
 use Rattle.round.proofs.Passing.{Fresh, Passed, proposal-passed, acceptor-passed}
-use Rattle.round.proofs.Arriving.{not-not, placesOf, Refers, referred, refers-back, chain-placed, links}
+use Rattle.round.proofs.Arriving.{all-known, not-not, placesOf, Refers, referred, refers-back, chain-placed, links}
 use Rattle.round.proofs.Answering.{acceptor-readable}
 
 pub record Accepts (H : List ℕ → Id) (r : Round) (b : List ℕ) (h : Held) : Type 0 where
@@ -80,10 +79,6 @@ module _ (H : List ℕ → Id) (rule : IdRule H) (r : Round) (most : r .held ≤
   length-ids zero at = refl
   length-ids (suc n) at = ap suc (length-ids n (at + layout.idLen))
 
-  all-known : (ids : List Id) → T (not (lacks r ids)) → T (all (isKnownId r) ids)
-  unfolding lacks
-  all-known ids h = not-not (all (isKnownId r) ids) h
-
   module _ (m : AcceptorMessage) (reads : reading b ≡ OfAcceptor m) where
     abbrev ids : List Id
     ids = referenceIds b m
@@ -96,7 +91,7 @@ module _ (H : List ℕ → Id) (rule : IdRule H) (r : Round) (most : r .held ≤
 
     module _ (passed : Passed r (H b) (m .signer) (previousId b m) ids (messageOf r h)) where
       refers : (j : ℕ) → j ∈ placesOf r ids → Refers r j
-      refers = referred r ids (all-known ids (passed .has))
+      refers = referred r ids (all-known r ids (passed .has))
 
       earlier : (j : ℕ) → j ∈ placesOf r ids → j < r .held
       earlier j k = let (i, q, t) = refers j k in place-some r i j q .inside
@@ -118,7 +113,7 @@ module _ (H : List ℕ → Id) (rule : IdRule H) (r : Round) (most : r .held ≤
       content : contentOf (tableOf r) h ≡ contentIn b
       unfolding contentOf
       content =
-          ap (joint (m .signer) (previousId b m)) (table-ids r (placesOf r ids) earlier ∙ refers-back r ids (all-known ids (passed .has)))
+          ap (joint (m .signer) (previousId b m)) (table-ids r (placesOf r ids) earlier ∙ refers-back r ids (all-known r ids (passed .has)))
           ∙ ap (contentRead b) (sym reads)
 
       accepts-passed : Accepts H r b h

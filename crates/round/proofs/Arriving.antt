@@ -14,7 +14,7 @@ use Rattle.protocol.specs.Table.{Held, offers, says, at, heldId, heldSigner, of
 use Rattle.protocol.proofs.Ids.{sameId-law}
 use Rattle.round.specs.Round.{Round}
 use Rattle.round.specs.Held.{idAt, isKnown, isProposalAt, signerAt, tableOf, placeOf}
-use Rattle.round.specs.Rows.{placed, orZero, isKnownId, isVoteOf, unchained}
+use Rattle.round.specs.Rows.{placed, orZero, isKnownId, lacks, isVoteOf, unchained}
 use Rattle.round.proofs.Named.{place-some}
 use Rattle.round.proofs.Order.{idsOf}
 use Rattle.round.proofs.Records.{table-id, table-signer, table-offered}
@@ -64,6 +64,10 @@ module _ (r : Round) where
       let (p, q, k) = placed-out (isKnown r) (placeOf r i) h in
       let w : p ≡ j = sym (e ∙ ap orZero q) in
       (i, q ∙ ap some w, subst (λ (x : ℕ). T (isKnown r x)) w k)
+
+  pub all-known : (ids : List Id) → T (not (lacks r ids)) → T (all (isKnownId r) ids)
+  unfolding lacks
+  all-known ids h = not-not (all (isKnownId r) ids) h
 
   pub referred : (ids : List Id) → T (all (isKnownId r) ids) → (j : ℕ) → j ∈ placesOf ids → Refers j
   referred ids h j m =

@@ -8,7 +8,7 @@ use mathlib.Core.List.{List, [], _∷_, List·Memᴰ·head}
 use Prim.Native.Nat.{ℕ, zero, suc, _<_}
 use native.Mathlib.Omega.{arith}
 use lib.Dec.{T}
-use Rattle.base.specs.Tests.{_∈_, all}
+use Rattle.base.specs.Tests.{_∈_}
 use Rattle.base.specs.Refusals.{numberOf}
 use Rattle.base.specs.declared.refusal.Refusal.{Refusal}
 use Rattle.base.proofs.Tests.{any-in, dec-T, map-in}
@@ -20,13 +20,13 @@ use Rattle.protocol.proofs.Message.{tran-law}
 use Rattle.protocol.proofs.Table.{tree-proposal, reach-self, reach-step, tran-places}
 use Rattle.round.specs.Round.{Round}
 use Rattle.round.specs.Held.{isProposalAt, tableOf, placeOf}
-use Rattle.round.specs.Rows.{idsFrom, referenceIds, previousId, orZero, isKnownId, lacks, acceptorRows, firstOf}
+use Rattle.round.specs.Rows.{idsFrom, referenceIds, previousId, orZero, acceptorRows, firstOf}
 use Rattle.round.specs.Demands.{Typed, grounded, arriving, AlwaysGrounded, formerRows, firstNumber, SameAcceptances}
 use Rattle.round.proofs.Named.{place-some}
 use Rattle.round.proofs.Fitting.{Fitting, fits-out}
 use Rattle.round.proofs.Records.{table-offered}
 use Rattle.round.proofs.Tables.{ordered-table, refers}
-use Rattle.round.proofs.Arriving.{not-not, gather-in, placesOf, referred}
+use Rattle.round.proofs.Arriving.{all-known, gather-in, placesOf, referred}
 
 -- ---- beneath every held place
 module _ (r : Round) (typed : Typed r) (fit : Fitting r) where
@@ -66,10 +66,6 @@ some-id : (n : ℕ) (b : List ℕ) (at : ℕ) → 0 < n → (i : Id) × (i ∈ i
 unfolding idsFrom
 some-id zero b at h = absurd (omega arith)
 some-id (suc n) b at h = (_, List·Memᴰ·head refl)
-
-all-known : (r : Round) (ids : List Id) → T (not (lacks r ids)) → T (all (isKnownId r) ids)
-unfolding lacks
-all-known r ids h = not-not (all (isKnownId r) ids) h
 
 -- A PROPOSAL ALWAYS LIES BENEATH
 pub alwaysGrounded : AlwaysGrounded

@@ -242,10 +242,10 @@ firstNumber [] = none
 firstNumber ((applies, n) ∷ l) = pick applies (some n) (firstNumber l)
 
 -- "Growers see the same acceptances as before": a message is turned down by the row that turned it down before, or by none where none did
-abbrev pub SameIn : (List ℕ → Id) → Round → Type 0
-SameIn H r = (b : List ℕ) (f : AcceptorMessage) → reading b ≡ OfAcceptor f
+abbrev pub SameRowIn : (List ℕ → Id) → Round → Type 0
+SameRowIn H r = (b : List ℕ) (f : AcceptorMessage) → reading b ≡ OfAcceptor f
     → firstNumber (formerRows r (H b) f (previousId b f) (referenceIds b f) (arriving H r b f))
     ≡ Option·map numberOf (firstOf (acceptorRows r (H b) f (previousId b f) (referenceIds b f) (arriving H r b f)))
 
 abbrev pub SameAcceptances : Type 0
-SameAcceptances = (H : List ℕ → Id) (r : Round) → Typed r → T (fits r) → SameIn H r
+SameAcceptances = (H : List ℕ → Id) (r : Round) → Typed r → T (fits r) → SameRowIn H r
