@@ -16,3 +16,4 @@ pub mod round;
 pub mod sha256;
 pub mod sites;
 pub mod tampering;
+pub mod trail;

@@ -64,7 +64,9 @@ impl Reached {
     pub fn never(&self, group: &str, which: &str, number: u32, tally: &mut Tally) {
         let answers: u64 = self.counts.iter().sum();
         let count = self.counts[number as usize];
-        println!("{group}: {which}: {number} answered {count} times among {answers} answers of 0 to 17");
+        println!(
+            "{group}: {which}: {number} answered {count} times among {answers} answers of 0 to 17"
+        );
         tally.check(count == 0, || format!("{which}: {number} was answered {count} times"));
     }
 

@@ -184,6 +184,13 @@ module _ {A B : Type 0} where
       step rest (inl e) = (x, List·Memᴰ·head refl, e)
       step rest (inr k) = let (z, i, e) = rest k in (z, List·Memᴰ·tail i, e)
 
+-- ---- members and entries
+-- what is asked of members holds of each entry, and 0 stands behind the last
+pub entry-below : (l : List ℕ) (k : ℕ) → 0 < k → ((j : ℕ) → j ∈ l → j < k) → (i : ℕ) → getD l i 0 < k
+entry-below [] k z h i = z
+entry-below (x ∷ l) k z h zero = h x (List·Memᴰ·head refl)
+entry-below (x ∷ l) k z h (suc i) = entry-below l k z (λ j m. h j (List·Memᴰ·tail m)) i
+
 -- ---- the numbers below n
 pub below-in : (n : ℕ) {i : ℕ} → i < n → i ∈ below n
 unfolding below

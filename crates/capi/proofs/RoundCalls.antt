@@ -1,16 +1,21 @@
--- A call on a round that is turned down leaves every lent byte as it was, and none answers the number of the row that was struck.
-use mathlib.Core.Path.{_≡_, refl, sym}
+-- A call on a round that is turned down leaves every lent byte as it was; none answers the number of the row that was struck; and a round that refers to
+-- a place of 128 or more is 17 in each.
+use mathlib.Core.Path.{_≡_, refl, sym, ap, _∙_}
 use mathlib.Core.Logic.{_≢_}
 use mathlib.Core.Bool.{Bool, true, false}
-use Prim.Native.Nat.{_<_}
+use mathlib.Core.List.{List}
+use Prim.Native.Nat.{ℕ, _+_, _*_, _≤_, _<_}
 use native.Mathlib.Omega.{arith}
-use lib.Dec.{ltb}
-use lib.ListN.{length}
+use lib.Dec.{ltb, not-T}
+use lib.ListN.{length, getD}
 use Rattle.base.specs.Tests.{pick}
 use Rattle.base.specs.Refusals.{struck}
 use Rattle.base.specs.declared.refusal.Refusal.the-variants.{Argument}
 use Rattle.base.proofs.Refusals.{numberUnused}
+use Rattle.base.proofs.Tests.{not-true, ne→neqb}
+use Rattle.base.proofs.Cuts.{getD-part}
 use Rattle.digest.specs.Sha256.{sha256}
+use Rattle.message.specs.Layout.{proposalKind}
 use Rattle.round.specs.Round.{Round}
 use Rattle.round.specs.declared.Opening.{Opening}
 use Rattle.round.specs.declared.Opening.the-variants as opening
@@ -18,15 +23,22 @@ use Rattle.round.specs.declared.Outcome.{Outcome}
 use Rattle.round.specs.declared.Outcome.the-variants as outcome
 use Rattle.round.specs.declared.Report.{Report}
 use Rattle.round.specs.declared.Report.the-variants as answer
+use Rattle.round.specs.Limits.{maxHeld}
+use Rattle.round.specs.Held as held
+use Rattle.round.specs.Handed.{fits}
 use Rattle.round.specs.Opening.{opened}
 use Rattle.round.specs.Delivery.{delivered, replied}
+use Rattle.round.specs.Report.{reported}
+use Rattle.round.proofs.Fitting.{Fitting, fits-out}
 use Rattle.round.proofs.OneCall.{refused-leaves-all}
+use Rattle.round.proofs.OneByte.{unfit-delivered, unfit-reported, narrow}
 use Rattle.round.proofs.Struck.{alwaysGrounded, sameAcceptances}
-use Rattle.roundbytes.specs.Layout.{roundLen, roundIn}
+use Rattle.roundbytes.specs.Layout.{heldAt, kindsAt, countsAt, referencesAt, roundLen, roundIn}
 use Rattle.roundbytes.specs.Opening.{openedTo}
+use Rattle.roundbytes.proofs.Fields.{held-in, kind-at, count-at, reference-at}
 use Rattle.roundbytes.proofs.Typing.{read-typed}
 use Rattle.engine.specs.Calls.{openAnswer, openTo, deliverAnswer, deliveredTo, deliverTo, replyTo, reportAnswer}
-use Rattle.capi.specs.Round.{seat, openNumber, deliverNumber, reportNumber, reportedTo, reportLen, OpenRefused, DeliverRefused, ReportRefused, StruckInBytes, StruckNeverAnswered}
+use Rattle.capi.specs.Round.{seat, openNumber, deliverNumber, reportNumber, reportedTo, reportLen, OpenRefused, DeliverRefused, ReportRefused, StruckInBytes, StruckNeverAnswered, WidePlaceIs17}
 
 -- ---- opening
 pub openRefused : OpenRefused
@@ -93,3 +105,43 @@ struckNeverAnswered = (
     reports false (answer.Decided x) k = absurd (omega arith)
     reports false (answer.Split x y) k = absurd (omega arith)
     reports false (answer.Refused e) k = numberUnused e k
+
+-- ---- a reference place of 128 to 255
+module _ (round : List ℕ) (p i : ℕ) (inside : p < getD round heldAt 0) (votes : getD round (kindsAt + p) 0 ≢ proposalKind) (named : i < getD round (countsAt + p) 0) (wide : maxHeld ≤ getD round (referencesAt + (maxHeld * p + i)) 0) where
+  abbrev r : Round
+  r = roundIn round
+
+  -- row 17 reads the byte
+  read-wide : Fitting r → ⊥
+  read-wide f =
+      let h : r .held ≡ getD round heldAt 0 = held-in round in
+      let most : r .held ≤ maxHeld = f .most in
+      let l : p < maxHeld = omega arith in
+      let counted : getD (r .counts) p 0 ≡ getD round (countsAt + p) 0 = count-at round p l in
+      let few : getD (r .counts) p 0 ≤ maxHeld = f .counts p (omega arith) in
+      let vote = ne→neqb (getD (r .kinds) p 0) proposalKind (λ e. votes (sym (kind-at round p l) ∙ e)) in
+      let low : getD (held.referencesAt r p) i 0 < maxHeld = narrow r f p i (omega arith) vote in
+      let byte : getD (held.referencesAt r p) i 0 ≡ getD round (referencesAt + (maxHeld * p + i)) 0 =
+      getD-part (getD (r .counts) p 0) (r .references) (maxHeld * p) i (omega arith) ∙ reference-at round (maxHeld * p + i) (omega arith) in
+      absurd (omega arith)
+
+  wide-unfit : fits r ≡ false
+  wide-unfit = not-true (fits r) (not-T (fits r) (λ h. read-wide (fits-out r h)))
+
+pub widePlaceIs17 : WidePlaceIs17
+unfolding deliverAnswer reportAnswer
+widePlaceIs17 round p i inside votes named wide =
+    let e = wide-unfit round p i inside votes named wide in
+    let r = roundIn round in (
+      λ message reply. delivers (ltb (length round) roundLen) (delivered sha256 r message reply .outcome) (unfit-delivered sha256 r message reply e),
+      λ learner buffer. reports (ltb (length buffer) reportLen) (ltb (length round) roundLen) (reported r learner) (unfit-reported r learner e),
+    )
+  where
+    delivers : (t : Bool) (o : Outcome) → o ≡ outcome.Refused Argument → deliverNumber (pick t (outcome.Refused Argument) o) ≡ 17
+    delivers true o e = refl
+    delivers false o e = ap deliverNumber e
+
+    reports : (t u : Bool) (a : Report) → a ≡ answer.Refused Argument → pick t 17 (reportNumber (pick u (answer.Refused Argument) a)) ≡ 17
+    reports true u a e = refl
+    reports false true a e = refl
+    reports false false a e = ap reportNumber e

@@ -3,13 +3,14 @@
 use mathlib.Core.List.{List, [], _∷_, _++_}
 use mathlib.Core.Logic.{_≢_}
 use mathlib.Core.Path.{_≡_}
-use Prim.Native.Nat.{ℕ, _+_, _≤_, _<_}
+use Prim.Native.Nat.{ℕ, _+_, _*_, _≤_, _<_}
 use lib.Dec.{T, ltb}
-use lib.ListN.{length}
+use lib.ListN.{length, getD}
 use Rattle.base.specs.Tests.{pick}
 use Rattle.base.specs.Bytes.{bytes, Octets}
 use Rattle.base.specs.Refusals.{numberOf, struck}
 use Rattle.digest.specs.Sha256.{sha256}
+use Rattle.message.specs.Layout.{proposalKind}
 use Rattle.message.specs.Writer.{fronted}
 use Rattle.round.specs.Round.{Round}
 use Rattle.round.specs.declared.Opening.{Opening}
@@ -18,11 +19,11 @@ use Rattle.round.specs.declared.Outcome.{Outcome}
 use Rattle.round.specs.declared.Outcome.the-variants as outcome
 use Rattle.round.specs.declared.Report.{Report}
 use Rattle.round.specs.declared.Report.the-variants as answer
-use Rattle.round.specs.Limits.{listening}
+use Rattle.round.specs.Limits.{maxHeld, listening}
 use Rattle.round.specs.Handed.{fits}
 use Rattle.round.specs.Lists.{Call, deliver, report, lastRound}
 use Rattle.round.specs.Demands.{Starts, GroundedIn, SameRowIn}
-use Rattle.roundbytes.specs.Layout.{roundLen, roundIn}
+use Rattle.roundbytes.specs.Layout.{heldAt, kindsAt, countsAt, referencesAt, roundLen, roundIn}
 use Rattle.engine.specs.Calls as call
 use Rattle.engine.specs.Calls.{deliverTo, replyTo}
 
@@ -81,7 +82,7 @@ reportAnswer round learner buffer = pick (ltb (length buffer) reportLen) 17 (rep
 abbrev pub reportTo : List ℕ → ℕ → List ℕ → List ℕ
 reportTo round learner buffer = pick (ltb (length buffer) reportLen) buffer (reportedTo (call.reportAnswer round learner) buffer)
 
--- ---- what holds of these calls; proofs/RoundCalls proves the first five under the same names, proofs/Keeping the last
+-- ---- what holds of these calls; proofs/RoundCalls proves the first six under the same names, proofs/Keeping the last
 -- "A call turned down writes to nothing that was lent."
 abbrev pub OpenRefused : Type 0
 OpenRefused = (file : List ℕ) (house bay acceptor : ℕ) (buffer : List ℕ)
@@ -104,6 +105,14 @@ abbrev pub StruckNeverAnswered : Type 0
 StruckNeverAnswered = ((file : List ℕ) (house bay acceptor : ℕ) (buffer : List ℕ) → openAnswer file house bay acceptor buffer ≢ struck)
     × ((round message reply : List ℕ) → deliverAnswer round message reply ≢ struck)
     × ((round : List ℕ) (learner : ℕ) (buffer : List ℕ) → reportAnswer round learner buffer ≢ struck)
+
+-- "a reference place of 128 to 255 handed in is still 17", in every call on a round: byte i of the references of the held acceptor message at place p,
+-- whatever the round's other bytes are and whatever else is lent
+abbrev pub WidePlaceIs17 : Type 0
+WidePlaceIs17 = (round : List ℕ) (p i : ℕ) → p < getD round heldAt 0 → getD round (kindsAt + p) 0 ≢ proposalKind → i < getD round (countsAt + p) 0
+    → maxHeld ≤ getD round (referencesAt + (maxHeld * p + i)) 0
+    → ((message reply : List ℕ) → deliverAnswer round message reply ≡ 17)
+    × ((learner : ℕ) (buffer : List ℕ) → reportAnswer round learner buffer ≡ 17)
 
 -- ---- a list of calls on one buffer (round/specs/Lists): each call gets the bytes that the call before it left
 unfoldable pub bytesAfter : List ℕ → List Call → List ℕ

@@ -2,7 +2,7 @@
 use mathlib.Core.Path.{_≡_, refl, sym, ap, subst, _∙_}
 use mathlib.Core.Logic.{_⊎_}
 use mathlib.Core.Bool.{Bool, true, false, _||_}
-use mathlib.Core.List.{List, [], _∷_, _++_, List·Memᴰ·head, List·Memᴰ·tail}
+use mathlib.Core.List.{List, [], _∷_, _++_}
 use Prim.Native.Nat.{ℕ, zero, suc, _+_, _-_, _*_, _≤_, _<_}
 use native.Mathlib.Numerals.{add-one}
 use native.Mathlib.Omega.{arith}
@@ -19,12 +19,6 @@ use Rattle.notes.specs.Records.{namedIn, referencesIn, recordIn, Fit}
 use Rattle.notes.specs.Notes.{Noted, NotedBy, Known, Candidate, Told}
 use Rattle.derive.proofs.Naming.{record-signer, record-kind, record-says, record-offers, candidate}
 use Rattle.notes.proofs.Growing.{noted-told, noted-offer, known-more}
-
--- what is asked of members holds of each entry, and 0 stands behind the last
-pub entry-below : (l : List ℕ) (k : ℕ) → 0 < k → ((j : ℕ) → j ∈ l → j < k) → (i : ℕ) → getD l i 0 < k
-entry-below [] k z h i = z
-entry-below (x ∷ l) k z h zero = h x (List·Memᴰ·head refl)
-entry-below (x ∷ l) k z h (suc i) = entry-below l k z (λ j m. h j (List·Memᴰ·tail m)) i
 
 -- the part of the references that the code lends
 pub lent-references : (counts references : List ℕ) (p c : ℕ) → c ≡ getD counts p 0 → take (128 * p + c - 128 * p) (drop (128 * p) references) ≡ referencesIn counts references p

@@ -2,8 +2,8 @@
 use mathlib.Core.Path.{_≡_, refl, sym, ap, subst, transport, transport⁻¹, _∙_}
 use mathlib.Core.Logic.{_⊎_, inl, inr}
 use mathlib.Core.Bool.{true, false, _&&_}
-use mathlib.Core.List.{List, [], _∷_, List·Memᴰ·head, List·Memᴰ·tail}
-use Prim.Native.Nat.{ℕ, zero, suc, _≤_, _<_}
+use mathlib.Core.List.{List}
+use Prim.Native.Nat.{ℕ, _≤_, _<_}
 use native.Mathlib.Omega.{arith}
 use lib.Dec.{T, ltb, leb, ltb→lt, leb→le}
 use lib.ListN.{length, getD}
@@ -11,7 +11,7 @@ use borrow.Author.Tests.{le-leb, lt-leb}
 use Rattle.base.specs.Tests.{_∈_, all, filter, below}
 use Rattle.base.specs.declared.refusal.Refusal.the-variants.{Argument}
 use Rattle.base.proofs.Bytes.{part-length}
-use Rattle.base.proofs.Tests.{and-l, and-r, or-out, all-out}
+use Rattle.base.proofs.Tests.{and-l, and-r, or-out, all-out, entry-below}
 use Rattle.protocol.specs.Report as paper
 use Rattle.graph.specs.LearnerGraph.{LearnerGraph}
 use Rattle.graph.specs.Held.{heldGraph, Sized}
@@ -180,16 +180,10 @@ read-most n h k e l = omega arith
 
 -- places that are held are below 128
 pub places-below : (l : List ℕ) (n : ℕ) → n ≤ 128 → ((j : ℕ) → j ∈ l → j < n) → (i : ℕ) → getD l i 0 < 128
-places-below [] n m h i = omega arith
-places-below (x ∷ l) n m h zero = let k = h x (List·Memᴰ·head refl) in omega arith
-places-below (x ∷ l) n m h (suc i) = places-below l n m (λ j k. h j (List·Memᴰ·tail k)) i
+places-below l n m h i = entry-below l 128 (omega arith) (λ j k. let e = h j k in omega arith) i
 
 -- ---- the report: 17, or what the verdict says
 module _ (r : Round) (a : ℕ) where
-  pub refused-round : fits r ≡ false → Refused Argument ≡ reported r a
-  unfolding reported
-  refused-round e = simp e
-
   pub refused-learner : fits r ≡ true → r .graph .learners ≤ a → Refused Argument ≡ reported r a
   unfolding reported
   refused-learner e h = simp (e, le-leb (r .graph .learners) a h)

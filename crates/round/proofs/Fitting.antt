@@ -45,13 +45,6 @@ module _ (r : Round) (p : ℕ) where
   abbrev all-back : Bool
   all-back = all (λ j. ltb j p) (referencesAt r p)
 
-  pub back-in : T (isProposalAt r p) ⊎ ((1 ≤ getD (r .counts) p 0) × ((j : ℕ) → j ∈ referencesAt r p → j < p)) → T (refersBack r p)
-  unfolding refersBack
-  back-in (inl t) = or-l (isProposalAt r p) (some-back && all-back) t
-  back-in (inr (one, earlier)) =
-      or-r (isProposalAt r p) (some-back && all-back)
-      (and-in some-back all-back (le→leb 1 (getD (r .counts) p 0) one) (all-in (λ j. ltb j p) (referencesAt r p) (λ j m. lt→ltb j p (earlier j m))))
-
   pub back-out : T (refersBack r p) → T (not (isProposalAt r p)) → (1 ≤ getD (r .counts) p 0) × ((j : ℕ) → j ∈ referencesAt r p → j < p)
   unfolding refersBack
   back-out h t = step (or-out (isProposalAt r p) (some-back && all-back) h)
@@ -62,6 +55,13 @@ module _ (r : Round) (p : ℕ) where
         leb→le 1 (getD (r .counts) p 0) (and-l some-back all-back k),
         λ j m. ltb→lt j p (all-out (λ q. ltb q p) m (and-r some-back all-back k)),
       )
+
+  pub back-in : T (isProposalAt r p) ⊎ ((1 ≤ getD (r .counts) p 0) × ((j : ℕ) → j ∈ referencesAt r p → j < p)) → T (refersBack r p)
+  unfolding refersBack
+  back-in (inl t) = or-l (isProposalAt r p) (some-back && all-back) t
+  back-in (inr (one, earlier)) =
+      or-r (isProposalAt r p) (some-back && all-back)
+      (and-in some-back all-back (le→leb 1 (getD (r .counts) p 0) one) (all-in (λ j. ltb j p) (referencesAt r p) (λ j m. lt→ltb j p (earlier j m))))
 
 -- ---- the whole of row 17's tests
 pub record Fitting (r : Round) : Type 0 where

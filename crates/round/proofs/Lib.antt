@@ -74,6 +74,9 @@ pub mod Sha256
 pub mod Tables
 -- Row 13 applied to no message that came as far as it
 pub mod Struck
+-- ---- places in one byte
+-- What row 17 says of places
+pub mod OneByte
 -- ---- what the contract must shut out
 -- A round that turns every message down
 pub mod Admitted

@@ -5,9 +5,9 @@ use mathlib.Core.Logic.{_≢_, _⊎_}
 use mathlib.Core.Bool.{Bool, not}
 use mathlib.Core.Option.{Option, none, some, Option·map}
 use mathlib.Core.List.{List, [], _∷_, _++_, map}
-use Prim.Native.Nat.{ℕ, _<_, _*_}
+use Prim.Native.Nat.{ℕ, _<_, _≤_, _*_}
 use lib.Dec.{T}
-use lib.ListN.{length, getD, take, drop}
+use lib.ListN.{length, getD, take, drop, set}
 use Rattle.base.specs.Tests.{_∈_, pick, any}
 use Rattle.base.specs.Refusals.{numberOf}
 use Rattle.base.specs.declared.refusal.Refusal.{Refusal}
@@ -27,13 +27,15 @@ use Rattle.round.specs.Round.{Round}
 use Rattle.round.specs.declared.Opening.the-variants.{Opened}
 use Rattle.round.specs.declared.Outcome.the-variants as outcome
 use Rattle.round.specs.declared.Report.{Report}
+use Rattle.round.specs.declared.Report.the-variants as answer
 use Rattle.round.specs.declared.Report.the-variants.{Decided, Split}
-use Rattle.round.specs.Limits.{maxHeld, listening}
-use Rattle.round.specs.Held.{graphOf, idAt, named, isProposalAt, isRecent, tableOf, knownPlaces}
+use Rattle.round.specs.Limits.{maxHeld, noPlace, listening}
+use Rattle.round.specs.Held.{graphOf, idAt, named, isProposalAt, referencesAt, isRecent, tableOf, knownPlaces}
 use Rattle.round.specs.Handed.{fits}
 use Rattle.round.specs.Opening.{opened}
 use Rattle.round.specs.Rows.{referenceIds, previousId, otherRound, foreign, isKnownId, lacks, unchained, voteRecord, messageOf, malformed1b, malformed2a, full, proposalRows, acceptorRows, firstOf}
-use Rattle.round.specs.Delivery.{delivered, replied}
+use Rattle.round.specs.Delivery.{delivered, replied, withRecent}
+use Rattle.round.specs.Report.{reported}
 use Rattle.round.specs.Lists.{Call, run, lastRound, accepted, written, reports}
 
 -- an id is 32 bytes
@@ -249,3 +251,44 @@ SameRowIn H r = (b : List ℕ) (f : AcceptorMessage) → reading b ≡ OfAccepto
 
 abbrev pub SameAcceptances : Type 0
 SameAcceptances = (H : List ℕ → Id) (r : Round) → Typed r → T (fits r) → SameRowIn H r
+
+-- ---- PLACES IN ONE BYTE: what row 17 says of places (how wide each is in a round's bytes: roundbytes/specs/ByteWidths)
+-- "a reference place of 128 to 255 handed in is still 17": reference i of the held acceptor message at place p, whatever else the round holds and
+-- whatever is asked of it
+abbrev pub WidePlaceRefused : Type 0
+WidePlaceRefused = (r : Round) (p i : ℕ) → p < r .held → T (not (isProposalAt r p)) → maxHeld ≤ getD (referencesAt r p) i 0
+    → ((H : List ℕ → Id) (b buffer : List ℕ) → delivered H r b buffer .outcome ≡ outcome.Refused Argument)
+    × ((a : ℕ) → reported r a ≡ answer.Refused Argument)
+
+-- r with q as the place of the previous message of place p
+abbrev pub withPrevious : Round → ℕ → ℕ → Round
+withPrevious r p q =
+    record {
+      graph = r .graph;
+      house = r .house;
+      bay = r .bay;
+      own = r .own;
+      held = r .held;
+      last = r .last;
+      ids = r .ids;
+      kinds = r .kinds;
+      signers = r .signers;
+      ballots = r .ballots;
+      previous = set (r .previous) p q;
+      counts = r .counts;
+      references = r .references;
+      known = r .known;
+      recent = r .recent;
+    }
+
+-- 255 names no message. In last sent and in previous it may stand, and no other number from 128 on; as a reference none of them may.
+pub record NoneInTwo (r : Round) : Type 0 where
+  pub nameless : named r noPlace ≡ none
+  pub lastMay : T (fits (withRecent r noPlace (r .recent)))
+  pub previousMay : (p : ℕ) → T (fits (withPrevious r p noPlace))
+  pub last : (r .last ≡ noPlace) ⊎ (r .last < maxHeld)
+  pub previous : (p : ℕ) → p < r .held → (getD (r .previous) p 0 ≡ noPlace) ⊎ (getD (r .previous) p 0 < maxHeld)
+  pub references : (p i : ℕ) → p < r .held → T (not (isProposalAt r p)) → getD (referencesAt r p) i 0 < maxHeld
+
+abbrev pub NoneInLastAndPrevious : Type 0
+NoneInLastAndPrevious = (r : Round) → T (fits r) → NoneInTwo r

@@ -1,4 +1,6 @@
 -- The layout of a round as bytes
 pub mod Layout
+-- How wide each field of it is
+pub mod ByteWidths
 -- A buffer after an opening
 pub mod Opening

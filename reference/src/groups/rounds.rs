@@ -5,6 +5,7 @@ mod agreement;
 mod forgery;
 mod judged;
 mod liar;
+mod places;
 mod samples;
 mod seat;
 mod tampered;
@@ -38,6 +39,12 @@ pub fn run(settings: &Settings) -> Tally {
         "rounds",
         &format!("document 01's sample rounds and the examples of rows 8 to 17{ALONE}"),
     );
+    let mut places = Referee::new(settings.random(7));
+    places::run(&mut places);
+    places.tally.line(
+        "rounds",
+        &format!("each number of 128 to 255 as a place of a round handed in{ALONE}"),
+    );
     let mut referee = Referee::new(settings.random(6));
     let mut met = Met::default();
     let mut sites = 0;
@@ -48,7 +55,7 @@ pub fn run(settings: &Settings) -> Tally {
         }
         sites += 1;
     }
-    let Referee { opened, handed_in, mut tally, rounds, .. } = referee;
+    let Referee { opened, handed_in, mut tally, rounds, trail, .. } = referee;
     tell(&opened, "rounds from an opening", &OF_OPENED, &mut tally);
     tell(&handed_in, "rounds handed in", &OF_HANDED_IN, &mut tally);
     println!(
@@ -60,6 +67,10 @@ pub fn run(settings: &Settings) -> Tally {
         handed_in.rounds, handed_in.taken
     );
     tally.line("rounds", &told);
+    if cfg!(feature = "rounds") {
+        println!("rounds: {}", trail.told());
+    }
+    samples.tally.add(&places.tally);
     samples.tally.add(&tally);
     samples.tally
 }

@@ -7,9 +7,10 @@ use Rattle.protocol.specs.Report as paper
 use Rattle.deciding.specs.Deciding.{shown}
 use Rattle.round.specs.Held.{graphOf, knownMessages}
 use Rattle.round.specs.Handed.{fits}
+use Rattle.round.proofs.OneByte.{unfit-reported}
 use Rattle.roundbytes.specs.Layout.{roundIn}
 use Rattle.judging.specs.Telling.{answerTo}
-use Rattle.judging.proofs.Worked.{refused-round, refused-learner, reported-told, told-shown}
+use Rattle.judging.proofs.Worked.{refused-learner, reported-told, told-shown}
 use borrow.Author.Needs.{needs}
 use Rattle.engine.proofs.report_in.Statement.{statement}
 use Rattle.engine.proofs.report_in.Tie as tie
@@ -18,7 +19,7 @@ fits-requires : tie.Need-fits-requires
 fits-requires c κs = search needs
 
 returns : tie.Need-returns
-returns c = let a = c .before .before .before .args in refused-round (roundIn (a .s .now)) (a .learner) (sym (c .before .fits2 .ensures) ∙ not-true _ (c .if1 .taken))
+returns c = let a = c .before .before .before .args in sym (unfit-reported (roundIn (a .s .now)) (a .learner) (sym (c .before .fits2 .ensures) ∙ not-true _ (c .if1 .taken)))
 
 shared-slice-read-if2 : tie.Need-shared-slice-read-if2
 shared-slice-read-if2 c = search needs

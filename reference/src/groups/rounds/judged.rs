@@ -22,6 +22,7 @@ mod linked {
     use reference::random::Random;
     use reference::refusal::{answer, Refusal};
     use reference::round::Report;
+    use reference::trail::Trail;
 
     fn numbers_agree(library: u32, model: u32) -> Verdict {
         if library == model {
@@ -65,7 +66,7 @@ mod linked {
     impl Judged {
         /// Opens the library's round; the model foretells its bytes or a refusal.
         pub fn open(
-            random: &mut Random,
+            (random, trail): (&mut Random, &mut Trail),
             file: &[u8],
             (house, bay, own): (u16, u16, Option<u32>),
             foretold: &Result<Vec<u8>, Refusal>,
@@ -74,22 +75,25 @@ mod linked {
             let mut round = Lent::new(random, room);
             let mut lent = Lent::holding(random, file, file.len());
             let number = library::open(lent.window(), house, bay, own, round.window());
+            trail.add(number, &[round.after()]);
             let verdict = numbers_agree(number, answer(foretold))
                 .and_then(|()| buffer_agrees("graph", &lent, file))
                 .and_then(|()| round_agrees(&round, foretold.as_deref().unwrap_or(&[])))
-                .and_then(|()| Self::open_short(random, file, (house, bay, own)));
+                .and_then(|()| Self::open_short((random, trail), file, (house, bay, own)));
             (Some(Judged { round, answer: number }), verdict)
         }
 
         /// A round's buffer that is too short is 17, whatever else is wrong.
         fn open_short(
-            random: &mut Random,
+            (random, trail): (&mut Random, &mut Trail),
             file: &[u8],
             (house, bay, own): (u16, u16, Option<u32>),
         ) -> Verdict {
             let len = short_len(random);
             let mut short = Lent::new(random, len);
-            numbers_agree(library::open(file, house, bay, own, short.window()), 17)?;
+            let number = library::open(file, house, bay, own, short.window());
+            trail.add(number, &[short.after()]);
+            numbers_agree(number, 17)?;
             buffer_agrees("short", &short, &[])
         }
 
@@ -106,13 +110,14 @@ mod linked {
         /// The model foretells the answer and the bytes of the round after it.
         pub fn deliver(
             &mut self,
-            random: &mut Random,
+            (random, trail): (&mut Random, &mut Trail),
             (message, room): (&[u8], usize),
             foretold: (&Answer, &[u8]),
         ) -> Verdict {
             let mut lent = Lent::holding(random, message, message.len());
             let mut reply = Lent::new(random, room);
             let number = library::deliver(self.round.window(), lent.window(), reply.window());
+            trail.add(number, &[self.round.after(), reply.after()]);
             self.answer = number;
             let (expected, front) = match foretold.0 {
                 Err(refusal) => (refusal.number(), &[][..]),
@@ -126,13 +131,22 @@ mod linked {
         }
 
         /// A round that lacks a byte is 17 whatever it is asked, and nothing is written.
-        pub fn ask_short(&mut self, random: &mut Random, message: &[u8], bytes: &[u8]) -> Verdict {
+        pub fn ask_short(
+            &mut self,
+            (random, trail): (&mut Random, &mut Trail),
+            message: &[u8],
+            bytes: &[u8],
+        ) -> Verdict {
             let len = short_len(random);
             let mut reply = Lent::new(random, reference::message::LONGEST);
             let mut out = Lent::new(random, 17);
             let short = &mut self.round.window()[..len];
-            numbers_agree(library::deliver(short, message, reply.window()), 17)?;
-            numbers_agree(library::report(short, 0, out.window()), 17)?;
+            let delivered = library::deliver(short, message, reply.window());
+            trail.add(delivered, &[short, reply.after()]);
+            let reported = library::report(short, 0, out.window());
+            trail.add(reported, &[short, out.after()]);
+            numbers_agree(delivered, 17)?;
+            numbers_agree(reported, 17)?;
             buffer_agrees("reply", &reply, &[])?;
             buffer_agrees("report", &out, &[])?;
             round_agrees(&self.round, bytes)
@@ -140,12 +154,13 @@ mod linked {
 
         pub fn report(
             &mut self,
-            random: &mut Random,
+            (random, trail): (&mut Random, &mut Trail),
             (learner, room): (u8, usize),
             foretold: (&Result<Report, Refusal>, &[u8]),
         ) -> Verdict {
             let mut out = Lent::new(random, room);
             let number = library::report(self.round.window(), learner, out.window());
+            trail.add(number, &[self.round.after(), out.after()]);
             self.answer = number;
             let front = foretold.0.map_or(Vec::new(), Report::bytes);
             numbers_agree(number, answer(foretold.0))?;
@@ -162,12 +177,13 @@ mod unlinked {
     use reference::random::Random;
     use reference::refusal::Refusal;
     use reference::round::Report;
+    use reference::trail::Trail;
 
     pub enum Judged {}
 
     impl Judged {
         pub fn open(
-            _random: &mut Random,
+            _: (&mut Random, &mut Trail),
             _file: &[u8],
             _round: (u16, u16, Option<u32>),
             _foretold: &Result<Vec<u8>, Refusal>,
@@ -185,20 +201,25 @@ mod unlinked {
 
         pub fn deliver(
             &mut self,
-            _random: &mut Random,
+            _: (&mut Random, &mut Trail),
             _message: (&[u8], usize),
             _foretold: (&Answer, &[u8]),
         ) -> Verdict {
             match *self {}
         }
 
-        pub fn ask_short(&mut self, _: &mut Random, _message: &[u8], _bytes: &[u8]) -> Verdict {
+        pub fn ask_short(
+            &mut self,
+            _: (&mut Random, &mut Trail),
+            _message: &[u8],
+            _bytes: &[u8],
+        ) -> Verdict {
             match *self {}
         }
 
         pub fn report(
             &mut self,
-            _random: &mut Random,
+            _: (&mut Random, &mut Trail),
             _learner: (u8, usize),
             _foretold: (&Result<Report, Refusal>, &[u8]),
         ) -> Verdict {

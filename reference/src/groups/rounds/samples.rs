@@ -17,36 +17,36 @@ fn p() -> Vec<u8> {
     vec![0, 0x0f, 1, 1, 0, 1, 0, 0x0c, 0, 0, 0, 0, 5, 0, 0, 0, 0x46]
 }
 
-fn proposal(round: u32, value: u32) -> Vec<u8> {
+pub fn proposal(round: u32, value: u32) -> Vec<u8> {
     message::write(&message::proposal(HOUSE, BAY, 0, round, value))
 }
 
-fn vote(signer: u8, previous: Option<Id>, mut references: Vec<Id>) -> Vec<u8> {
+pub fn vote(signer: u8, previous: Option<Id>, mut references: Vec<Id>) -> Vec<u8> {
     references.sort();
     let body = Body::Acceptor { previous, references };
     message::write(&Message { house: HOUSE, bay: BAY, signer, body })
 }
 
 /// Checks what a call gave against what the document says.
-struct Sample<'a> {
+pub struct Sample<'a> {
     referee: &'a mut Referee,
-    seat: Seat,
+    pub seat: Seat,
 }
 
 impl<'a> Sample<'a> {
-    fn open(referee: &'a mut Referee, file: &[u8], own: Option<u32>) -> Self {
+    pub fn open(referee: &'a mut Referee, file: &[u8], own: Option<u32>) -> Self {
         let seat = Seat::open(referee, file, (HOUSE, BAY, own)).expect("a sample round opens");
         Sample { referee, seat }
     }
 
-    fn expect<T: PartialEq + std::fmt::Debug>(&mut self, name: &str, got: T, expected: T) {
+    pub fn expect<T: PartialEq + std::fmt::Debug>(&mut self, name: &str, got: T, expected: T) {
         self.referee
             .tally
             .check(got == expected, || format!("{name}: model {got:?}, document {expected:?}"));
     }
 
     /// Delivers until the reply buffer was not one of the short ones.
-    fn deliver(&mut self, bytes: &[u8]) -> Answer {
+    pub fn deliver(&mut self, bytes: &[u8]) -> Answer {
         loop {
             match self.seat.deliver(self.referee, bytes) {
                 Err(Refusal::Argument) => {}

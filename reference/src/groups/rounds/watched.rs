@@ -9,11 +9,14 @@ use reference::message::LONGEST;
 use reference::random::Random;
 use reference::refusal::{answer, Refusal};
 use reference::round::{self, Delivery, Report, Round, Step};
+use reference::trail::Trail;
 
 /// What all comparisons share.
 pub struct Referee {
     pub random: Random,
     pub tally: Tally,
+    /// What the library answered and wrote.
+    pub trail: Trail,
     /// Calls on rounds that an opening led to, openings included.
     pub opened: Counts,
     /// Calls on rounds that were handed in damaged or made up.
@@ -54,6 +57,7 @@ impl Referee {
         Referee {
             random,
             tally: Tally::default(),
+            trail: Trail::default(),
             opened: Counts::default(),
             handed_in: Counts::default(),
             rounds: 0,
@@ -122,7 +126,12 @@ impl Watched {
     ) -> Result<Self, Refusal> {
         let model = round::open(file, house, bay, own);
         let bytes = model.as_ref().map(layout::opened).map_err(|refusal| *refusal);
-        let (judged, verdict) = Judged::open(&mut referee.random, file, (house, bay, own), &bytes);
+        let (judged, verdict) = Judged::open(
+            (&mut referee.random, &mut referee.trail),
+            file,
+            (house, bay, own),
+            &bytes,
+        );
         referee.opened.reached.count(answer(&model));
         referee.opened.count_answer(&judged);
         let agreed = verdict.is_ok();
@@ -157,11 +166,12 @@ impl Watched {
         referee.counts(self.origin).count_delivery(&outcome);
         let outcome = outcome.map(Delivery::reply);
         if let Some(judged) = &mut self.judged {
-            let random = &mut referee.random;
+            let (random, trail) = (&mut referee.random, &mut referee.trail);
             let foretold = (&outcome, &self.bytes[..]);
-            let mut verdict = judged.deliver(random, (message, room), foretold);
+            let mut verdict = judged.deliver((random, trail), (message, room), foretold);
             if random.once_in(50) {
-                verdict = verdict.and_then(|()| judged.ask_short(random, message, &self.bytes));
+                verdict =
+                    verdict.and_then(|()| judged.ask_short((random, trail), message, &self.bytes));
             }
             referee.counts(self.origin).count_answer(&self.judged);
             self.settle(referee, verdict, |round| {
@@ -185,7 +195,8 @@ impl Watched {
         referee.counts(self.origin).count_report(&outcome);
         if let Some(judged) = &mut self.judged {
             let foretold = (&outcome, &self.bytes[..]);
-            let verdict = judged.report(&mut referee.random, (learner, room), foretold);
+            let (random, trail) = (&mut referee.random, &mut referee.trail);
+            let verdict = judged.report((random, trail), (learner, room), foretold);
             referee.counts(self.origin).count_answer(&self.judged);
             self.settle(referee, verdict, |round| format!("report of {round} for {learner}"));
         }

@@ -8,13 +8,14 @@ use borrow.Author.Tests.{eq-eqb, ne-eqb}
 use lib.ListN.{getD, take, drop}
 use Rattle.base.specs.Bytes.{part}
 use Rattle.base.specs.Tests.{_∈_}
+use Rattle.base.proofs.Tests.{entry-below}
 use Rattle.graph.specs.Held.{heldGraph}
 use Rattle.protocol.proofs.Growth.{length-tabulate}
 use Rattle.scan.specs.Arrays.{idIn}
 use Rattle.notes.specs.Records.{namedIn, recordIn, tableIn}
 use Rattle.notes.specs.Notes.{Candidate}
 use Rattle.notes.proofs.Lending.{rooms-in, name-read}
-use Rattle.derive.proofs.Passing.{entry-below, lent-references, offer-noted, held-candidate, held-noted}
+use Rattle.derive.proofs.Passing.{lent-references, offer-noted, held-candidate, held-noted}
 use Rattle.derive.proofs.pass.note_held.Statement.{statement}
 use Rattle.derive.proofs.pass.note_held.Tie as tie
 
