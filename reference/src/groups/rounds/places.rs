@@ -8,7 +8,7 @@ use reference::layout::{COUNTS, HELD, KINDS, LAST, NO_PLACE, PREVIOUS, REFERENCE
 use reference::message::PROPOSAL;
 use reference::refusal::Refusal;
 use reference::round::CAPACITY;
-use reference::sha256::sha256;
+use reference::sha256::{sha256, Id};
 use reference::sites::g0;
 
 /// What a byte of a round is to row 17.
@@ -30,24 +30,28 @@ impl Byte {
     }
 }
 
-/// A round that holds a proposal, proposals of lower ballots, and two votes of one
-/// acceptor: its own ones where it votes, and the second then awaits its return.
+/// A round that holds a proposal, proposals of lower ballots, and three votes of one
+/// acceptor: on the first proposal, on all of them, and on these two votes. Where the
+/// round is that acceptor's, the first and the last are its own and await their return.
 fn running(referee: &mut Referee, own: Option<u32>, lower: usize) -> Vec<u8> {
     let mut sample = Sample::open(referee, &graph::write(&g0()), own);
-    let first = proposal(500, 1);
-    let z1 = vote(0, None, vec![sha256(&first)]);
-    let z1_id = sha256(&z1);
-    let z2 = vote(0, Some(z1_id), vec![z1_id]);
-    let _ = sample.deliver(&first);
-    for round in 1..=lower {
-        let _ = sample.deliver(&proposal(round as u32, 1));
+    let proposals: Vec<_> = (0..=lower).map(|down| proposal(500 - down as u32, 1)).collect();
+    let ids: Vec<Id> = proposals.iter().map(|bytes| sha256(bytes)).collect();
+    let first = vote(0, None, vec![ids[0]]);
+    let second = vote(0, None, ids);
+    let last = vote(0, Some(sha256(&first)), vec![sha256(&first), sha256(&second)]);
+    for bytes in &proposals {
+        let _ = sample.deliver(bytes);
     }
-    let _ = sample.deliver(&z1);
     if own.is_none() {
-        let _ = sample.deliver(&z2);
+        let _ = sample.deliver(&first);
+    }
+    let _ = sample.deliver(&second);
+    if own.is_none() {
+        let _ = sample.deliver(&last);
     }
     let held = sample.seat.round().held();
-    sample.expect("a proposal, lower ones and two votes are held", held, lower + 3);
+    sample.expect("proposals and three votes are held", held, lower + 4);
     sample.seat.bytes().to_vec()
 }
 
@@ -84,7 +88,7 @@ fn try_number(referee: &mut Referee, round: &[u8], (at, byte): (usize, Byte), nu
 
 pub fn run(referee: &mut Referee) {
     for own in [None, Some(0)] {
-        for lower in [0, CAPACITY - 3] {
+        for lower in [1, CAPACITY - 4] {
             let round = running(referee, own, lower);
             for spot in bytes_of_places(&round) {
                 for number in CAPACITY as u8..=u8::MAX {
