@@ -7,6 +7,13 @@ use round::Opening;
 use round::Outcome;
 use round::Report;
 use roundbytes::ROUND_LEN;
+ghost use mathlib.Core.Path.{_≡_};
+ghost use lib.ListN.{length};
+ghost use Rattle.base.specs.Refusals.{numberOf};
+ghost use Rattle.base.specs.declared.refusal.Refusal.the-variants.{Argument};
+ghost use Rattle.roundbytes.specs.Layout.{roundLen};
+ghost use Rattle.engine.specs.Calls.{openAnswer, openTo, deliverAnswer, deliverTo, replyTo, reportAnswer};
+ghost use Rattle.round_samples.specs.Calls.{blanks, zeros, openingCode, outcomeCode, verdictOf, leftBy, differingIn};
 
 // What every byte of a reply buffer is before a delivery.
 const BLANK: u8 = 9;
@@ -31,16 +38,30 @@ pub struct Verdict {
 }
 
 // A reply buffer of the least length that is enough.
-fn blank() -> [u8; 4139] {
+fn blank() -> [u8; 4139]
+    ensures { λ r. ⌜ r ≡ blanks 4139 ⌝ }
+{
     [BLANK; 4139]
 }
 
 // A reply buffer with one byte less.
-fn short() -> [u8; 4138] {
+fn short() -> [u8; 4138]
+    ensures { λ r. ⌜ r ≡ blanks 4138 ⌝ }
+{
     [BLANK; 4138]
 }
 
-fn outcome_code(outcome: Outcome) -> u64 {
+// A round's buffer before it is opened.
+fn fresh() -> [u8; ROUND_LEN]
+    ensures { λ r. ⌜ r ≡ zeros roundLen ⌝ }
+{
+    [0u8; ROUND_LEN]
+}
+
+// The code of a delivery's answer.
+fn outcome_code(outcome: Outcome) -> u64
+    ensures { λ r. ⌜ r ≡ outcomeCode outcome ⌝ }
+{
     match outcome {
         Outcome::Accepted => 0,
         Outcome::Replied(n) => std::num::wrapping_add_u64(1000, n as u64),
@@ -49,7 +70,11 @@ fn outcome_code(outcome: Outcome) -> u64 {
 }
 
 // Delivers bytes to a round.
-pub fn given(round: Round, bytes: &[u8]) -> Step {
+pub fn given(round: Round, bytes: &[u8]) -> Step
+    ensures { λ r. ⌜ (r .code ≡ outcomeCode (deliverAnswer (round .bytes) (now (bytes .entry)) (blanks 4139)))
+        × ((r .round .bytes ≡ deliverTo (round .bytes) (now (bytes .entry)) (blanks 4139))
+        × (r .reply ≡ replyTo (round .bytes) (now (bytes .entry)) (blanks 4139))) ⌝ }
+{
     let mut reply = blank();
     let mut next = round.bytes;
     let outcome = deliver(&mut next, bytes, &mut reply);
@@ -61,13 +86,17 @@ pub fn given(round: Round, bytes: &[u8]) -> Step {
 }
 
 // The round after a delivery.
-pub fn after(round: Round, bytes: &[u8]) -> Round {
+pub fn after(round: Round, bytes: &[u8]) -> Round
+    ensures { λ r. ⌜ r .bytes ≡ deliverTo (round .bytes) (now (bytes .entry)) (blanks 4139) ⌝ }
+{
     let s = given(round, bytes);
     s.round
 }
 
-// What a delivery gives with a reply buffer that is one byte too short, or 9,999 where a byte of it was written.
-pub fn cramped(round: Round, bytes: &[u8]) -> u64 {
+// What a delivery gives with a reply buffer that is one byte too short; it would be 9,999 if a byte of it were written.
+pub fn cramped(round: Round, bytes: &[u8]) -> u64
+    ensures { λ r. ⌜ r ≡ numberOf Argument ⌝ }
+{
     let mut reply = short();
     let mut next = round.bytes;
     let outcome = deliver(&mut next, bytes, &mut reply);
@@ -77,17 +106,25 @@ pub fn cramped(round: Round, bytes: &[u8]) -> u64 {
     outcome_code(outcome)
 }
 
-// How many bytes of a reply buffer are not as this reply leaves them: its own bytes, and behind them those that were there.
-pub fn differing(buffer: &[u8], reply: &[u8]) -> u64 {
+// What byte i of a reply buffer is after this reply: the reply's own, and behind it what was there.
+fn left_by(reply: &[u8], i: usize) -> u8
+    ensures { λ r. ⌜ r ≡ leftBy (now (reply .entry)) i ⌝ }
+{
+    if i < reply.len() {
+        return reply[i];
+    }
+    BLANK
+}
+
+// How many bytes of a reply buffer are not as this reply leaves them.
+pub fn differing(buffer: &[u8], reply: &[u8]) -> u64
+    ensures { λ r. ⌜ r ≡ differingIn (length (now (buffer .entry))) (now (buffer .entry)) (now (reply .entry)) ⌝ }
+{
     let mut n: u64 = 0;
     let mut i: usize = 0;
     while i < buffer.len() {
-        let mut expected = BLANK;
-        if i < reply.len() {
-            expected = reply[i];
-        }
-        if buffer[i] != expected {
-            n = std::num::wrapping_add_u64(n, 1);
+        if buffer[i] != left_by(reply, i) {
+            n += 1;
         }
         i += 1;
     }
@@ -95,15 +132,19 @@ pub fn differing(buffer: &[u8], reply: &[u8]) -> u64 {
 }
 
 // The round for house 1 and bay 12.
-pub fn start(file: &[u8], own: u16) -> Round {
-    let mut bytes = [0u8; ROUND_LEN];
+pub fn start(file: &[u8], own: u16) -> Round
+    ensures { λ r. ⌜ r .bytes ≡ openTo (now (file .entry)) 1 12 own (zeros roundLen) ⌝ }
+{
+    let mut bytes = fresh();
     let _answer = open(file, 1, 12, own, &mut bytes);
     Round { bytes }
 }
 
 // 0 for a round that opens, or the number that turns it down.
-pub fn opening(file: &[u8], own: u16) -> u64 {
-    let mut bytes = [0u8; ROUND_LEN];
+pub fn opening(file: &[u8], own: u16) -> u64
+    ensures { λ r. ⌜ r ≡ openingCode (openAnswer (now (file .entry)) 1 12 own (zeros roundLen)) ⌝ }
+{
+    let mut bytes = fresh();
     match open(file, 1, 12, own, &mut bytes) {
         Opening::Opened => 0,
         Opening::Refused(r) => number(r) as u64,
@@ -111,7 +152,9 @@ pub fn opening(file: &[u8], own: u16) -> u64 {
 }
 
 // The report for a learner.
-pub fn told(round: Round, learner: u8) -> Verdict {
+pub fn told(round: Round, learner: u8) -> Verdict
+    ensures { λ r. ⌜ r ≡ verdictOf (reportAnswer (round .bytes) learner) ⌝ }
+{
     let bytes = round.bytes;
     match report(&bytes, learner) {
         Report::Undecided => Verdict {

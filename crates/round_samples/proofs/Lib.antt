@@ -1,0 +1,2 @@
+-- What an acceptor message that names a previous one is
+pub mod Votes
