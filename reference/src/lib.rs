@@ -1,6 +1,7 @@
 //! Models of the consensus library, written from FIPS 180-4, the report of
 //! 4 December 2024 (source document 001) and document 01 alone. The program
-//! beside them compares the library with these models.
+//! beside them compares the library with these models. What its text of
+//! 19 November 2024 (source document 000) says is compared with the models.
 
 pub mod damage;
 pub mod fields;
@@ -10,6 +11,7 @@ pub mod layout;
 pub mod library;
 pub mod meaning;
 pub mod message;
+pub mod november;
 pub mod random;
 pub mod refusal;
 pub mod round;

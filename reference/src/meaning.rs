@@ -192,6 +192,10 @@ impl History {
         self.signers(lying)
     }
 
+    pub fn caught(&self, m: Place) -> Mask {
+        self.caught[m]
+    }
+
     /// Definition 12. "Con_a(m): learners b with a listed mask of a-b that has
     /// no acceptor of Caught(m)."
     fn con(&self, a: usize, m: Place) -> impl Iterator<Item = usize> + '_ {

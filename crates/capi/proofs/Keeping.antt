@@ -1,4 +1,4 @@
--- After every list of calls the buffer holds the round that the rules lead to.
+-- After every list of calls the buffer holds the round that the rules lead to, and what holds of the one holds of the other.
 use mathlib.Core.Path.{_≡_, refl, sym, ap, subst, _∙_}
 use mathlib.Core.List.{List, [], _∷_}
 use Prim.Native.Nat.{ℕ, _≤_}
@@ -14,15 +14,17 @@ use Rattle.round.specs.declared.Outcome.the-variants as outcome
 use Rattle.round.specs.Opening.{opened}
 use Rattle.round.specs.Delivery.{delivered}
 use Rattle.round.specs.Lists.{Call, deliver, report, lastRound}
-use Rattle.round.specs.Demands.{Typed}
+use Rattle.round.specs.Demands.{Typed, SameCaughtIn}
 use Rattle.round.proofs.JustOpened.{opened-round}
 use Rattle.round.proofs.OneCall.{refused-leaves-all}
+use Rattle.round.proofs.Sha256.{sha256IsIdRule}
+use Rattle.round.proofs.Demands.{sameCaughtOverLists}
 use Rattle.roundbytes.specs.Layout.{roundLen, roundBytes, roundIn, Laid}
 use Rattle.roundbytes.proofs.RoundBytes.{round-reads-back}
 use Rattle.roundbytes.specs.Opening.{openedTo}
 use Rattle.engine.specs.Calls.{deliveredTo, deliverTo}
 use Rattle.engine.specs.Calls as call
-use Rattle.capi.specs.Round.{seat, openTo, bytesAfter, OfBytes, RoundInBytes}
+use Rattle.capi.specs.Round.{seat, openTo, bytesAfter, OfBytes, RoundInBytes, SameCaughtInBytes}
 use Rattle.capi.proofs.OpenedLaid.{opened-laid}
 use Rattle.capi.proofs.DeliveredLaid.{delivered-laid}
 
@@ -85,3 +87,8 @@ roundInBytes file house bay acceptor buffer r bytes starts long l o =
     let far : roundLen ≤ length b = subst (λ (y : List ℕ). roundLen ≤ length y) (sym front) (omega (arith, front-long (roundBytes r) buffer)) in
     kept l b far (subst Laid (sym same) laid) (subst Typed (sym same) (opened-round file house bay (seat acceptor) r starts .typed)) o
     ∙ ap (λ (y : Round). lastRound sha256 y l) same
+
+pub sameCaughtInBytes : SameCaughtInBytes
+sameCaughtInBytes file house bay acceptor buffer r bytes starts long l o free =
+    subst SameCaughtIn (sym (roundInBytes file house bay acceptor buffer r bytes starts long l o))
+    (sameCaughtOverLists sha256 sha256IsIdRule file house bay (seat acceptor) r starts l free)

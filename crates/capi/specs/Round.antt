@@ -21,8 +21,8 @@ use Rattle.round.specs.declared.Report.{Report}
 use Rattle.round.specs.declared.Report.the-variants as answer
 use Rattle.round.specs.Limits.{maxHeld, listening}
 use Rattle.round.specs.Handed.{fits}
-use Rattle.round.specs.Lists.{Call, deliver, report, lastRound}
-use Rattle.round.specs.Demands.{Starts, GroundedIn, SameRowIn}
+use Rattle.round.specs.Lists.{Call, deliver, report, run, lastRound, accepted, written}
+use Rattle.round.specs.Demands.{Starts, NoCollision, GroundedIn, SameRowIn, SameCaughtIn}
 use Rattle.roundbytes.specs.Layout.{heldAt, kindsAt, countsAt, referencesAt, roundLen, roundIn}
 use Rattle.engine.specs.Calls as call
 use Rattle.engine.specs.Calls.{deliverTo, replyTo}
@@ -82,7 +82,7 @@ reportAnswer round learner buffer = pick (ltb (length buffer) reportLen) 17 (rep
 abbrev pub reportTo : List ℕ → ℕ → List ℕ → List ℕ
 reportTo round learner buffer = pick (ltb (length buffer) reportLen) buffer (reportedTo (call.reportAnswer round learner) buffer)
 
--- ---- what holds of these calls; proofs/RoundCalls proves the first six under the same names, proofs/Keeping the last
+-- ---- what holds of these calls; proofs/RoundCalls proves the first six under the same names, proofs/Keeping the last two
 -- "A call turned down writes to nothing that was lent."
 abbrev pub OpenRefused : Type 0
 OpenRefused = (file : List ℕ) (house bay acceptor : ℕ) (buffer : List ℕ)
@@ -131,3 +131,10 @@ abbrev pub RoundInBytes : Type 0
 RoundInBytes = (file : List ℕ) (house bay acceptor : ℕ) (buffer : List ℕ) (r : Round)
     → Octets file → Starts file house bay (seat acceptor) r → roundLen ≤ length buffer → (l : List Call) → OfBytes l
     → roundIn (bytesAfter (openTo file house bay acceptor buffer) l) ≡ lastRound sha256 r l
+
+-- so both texts catch the same acceptors in each message that the buffer holds, where no two different messages accepted or written in the list have one id
+abbrev pub SameCaughtInBytes : Type 0
+SameCaughtInBytes = (file : List ℕ) (house bay acceptor : ℕ) (buffer : List ℕ) (r : Round)
+    → Octets file → Starts file house bay (seat acceptor) r → roundLen ≤ length buffer → (l : List Call) → OfBytes l
+    → NoCollision sha256 (accepted (run sha256 r l) ++ written (run sha256 r l))
+    → SameCaughtIn (roundIn (bytesAfter (openTo file house bay acceptor buffer) l))

@@ -47,7 +47,7 @@ entangled-self G sound M a b la lb e = record { safe = e .safe; isSafeSet = safe
 module _ (G : LearnerGraph) (sound : SoundGraph G) (M : List Message) (law : Lawful M) (s : ℕ → Bool) (honest : (p : ℕ) → p < G .acceptors → T (s p) → Honest M p) where
   -- no message of M shows an acceptor of s forking, so a stays in Con_c
   stays : (c a : ℕ) → T (isSafe G c a s) → (y : Message) → y ∈ M → T (con G c y a)
-  stays c a h y k = let (t, i, f) = safe-law G c a s .0 h in con-law G c y a .1 (t, i, λ p l q. not-caught law p (honest p l (f p l q)) y k)
+  stays c a h y k = let (t, i, f) = safe-law G c a s .0 h in con-law G c y a .1 (t, i, λ p l q. not-caught (law .chains) p (honest p l (f p l q)) y k)
 
   -- ballot x decides for a in K
   module _ (a : ℕ) (la : a < G .learners) (aa : T (isSafe G a a s)) (K : List Message) (inside : Within K M) (x : ℕ) (dec : T (decides G K a x)) where
@@ -58,17 +58,17 @@ module _ (G : LearnerGraph) (sound : SoundGraph G) (M : List Message) (law : Law
     unburied : (n : ℕ) → Upto n → (m y : Message) → y ∈ M → T (is1b y) → ballot y ≤ n → ballot m ≡ x → Buried G a m y → ⊥
     unfolding value
     unburied n ih m y k one l e (z, h, two, i, lt, ne) =
-        ne (ih z (law .closed y z k h) (omega (arith, ballot-mono y z h, no-2a-of-its-ballot law y z k one h two)) i (omega arith) ∙ ap valueOf (sym e))
+        ne (ih z (law .chains .closed y z k h) (omega (arith, ballot-mono y z h, no-2a-of-its-ballot law y z k one h two)) i (omega arith) ∙ ap valueOf (sym e))
 
     -- p signed m of the ballot x, a in lrns(m), and y, a 1b of the later ballot of z, fresh for c
     meets : (n c p : ℕ) → Upto n → T (isSafe G c a s) → p < G .acceptors → T (s p) → (z : Message) → z ∈ M → ballot z ≤ n → x < ballot z
         → Voter G K a x p → Backer G c z p → value z ≡ valueOf x
     unfolding value
     meets n c p ih ca lp sp z k l lt (m, mk, two, mb, ml, ms) (y, yz, one, yf, yb, ys) =
-        let yk : y ∈ M = law .closed z y k yz in
+        let yk : y ∈ M = law .chains .closed z y k yz in
         let mine : Mine M p m = record { inside = inside m mk; accepts = 2a-law m .0 two .0; signed = ms } in
         let yours : Mine M p y = record { inside = yk; accepts = 1b-law y .0 one .0; signed = ys } in
-        step yk (line M law p (honest p lp sp) m y mine yours)
+        step yk (line M (law .chains) p (honest p lp sp) m y mine yours)
       where
         step : y ∈ M → (m ∈ tran y) ⊎ (y ∈ tran m) → value z ≡ valueOf x
         step yk (inl h) =

@@ -1,4 +1,4 @@
--- In a lawful set of messages, the acceptor messages of an honest acceptor are in a line: of any two, one is in Tran of the other.
+-- In a chained set of messages, the acceptor messages of an honest acceptor are in a line: of any two, one is in Tran of the other.
 -- The order goes by rank: how far a message's chain of previous messages reaches.
 use mathlib.Core.Path.{_≡_, refl, sym, ap, subst, _∙_}
 use mathlib.Core.Logic.{_⊎_, inl, inr, _≢_}
@@ -13,7 +13,7 @@ use Rattle.base.proofs.Tests.{dec-T, neqb→ne}
 use Rattle.protocol.specs.Ids.{Id, sameId}
 use Rattle.protocol.specs.Message.{Message, idOf, signer, previous, isProposal, isAcceptor, is1b, is2a, tran, ballot, caughtIn, caught}
 use Rattle.protocol.specs.Learners.{height}
-use Rattle.protocol.specs.Theorems.{Lawful, Honest}
+use Rattle.protocol.specs.Theorems.{Chained, Lawful, Honest}
 use Rattle.protocol.proofs.Ids.{sameId-law}
 use Rattle.protocol.proofs.Message.{2a-law, tran-self, beneath, beneath-tran, reference-beneath, tran-closed}
 use Rattle.protocol.proofs.Ballot.{height-beneath}
@@ -21,7 +21,7 @@ use Rattle.protocol.proofs.Caught.{caughtIn-law, caught-law}
 use Rattle.protocol.proofs.WellFormed.{chained-law, formed1b-law}
 
 -- Caught(m) holds nobody who is honest in M
-pub not-caught : {M : List Message} → Lawful M → (p : ℕ) → Honest M p → (m : Message) → m ∈ M → T (caught m p) → ⊥
+pub not-caught : {M : List Message} → Chained M → (p : ℕ) → Honest M p → (m : Message) → m ∈ M → T (caught m p) → ⊥
 not-caught {M} law p honest m h c =
     let (x, y, i, j, f, e) = caught-law m p .0 c in
     T-not (caughtIn M p) honest (caughtIn-law M p .1 (x, y, law .closed m x h i, law .closed m y h j, f, e))
@@ -37,7 +37,7 @@ abbrev Rank : List Message → ℕ → Message → ℕ → Type 0
 Rank M p m zero = previous m ≡ none
 Rank M p m (suc k) = (u : Message) × Mine M p u × (u ∈ beneath m) × (previous m ≡ some (idOf u)) × Rank M p u k
 
-module _ (M : List Message) (law : Lawful M) (p : ℕ) (honest : Honest M p) where
+module _ (M : List Message) (law : Chained M) (p : ℕ) (honest : Honest M p) where
   ranked : (h : ℕ) (m : Message) → height m < h → Mine M p m → (k : ℕ) × Rank M p m k
   ranked zero m l mine = absurd (omega arith)
   ranked (suc h) m l mine = step (λ u q. ranked h u (omega (arith, height-beneath m q))) (previous m) refl
@@ -102,6 +102,6 @@ pub no-2a-of-its-ballot : {M : List Message} → Lawful M → (y z : Message) �
 no-2a-of-its-ballot {M} law y z h one k two e = step (dec-T (sameId (idOf z) (idOf y)))
   where
     step : T (sameId (idOf z) (idOf y)) ⊎ T (not (sameId (idOf z) (idOf y))) → ⊥
-    step (inl t) = 2a-law z .0 two .1 (subst (λ (x : Message). T (is1b x)) (sym (law .apart z y (law .closed y z h k) h (sameId-law (idOf z) (idOf y) .0 t))) one)
+    step (inl t) = 2a-law z .0 two .1 (subst (λ (x : Message). T (is1b x)) (sym (law .chains .apart z y (law .chains .closed y z h k) h (sameId-law (idOf z) (idOf y) .0 t))) one)
     step (inr t) = T-not (isProposal z) (2a-law z .0 two .0)
         (formed1b-law y .0 (law .forms y h) one z k (λ d. T-not (sameId (idOf z) (idOf y)) t (sameId-law (idOf z) (idOf y) .1 d)) e)

@@ -26,8 +26,8 @@ pub mod Validity
 pub mod Table
 -- A table that grows keeps its messages
 pub mod Growth
--- What accepted places lead to
-pub mod Accepted
+-- What places of a chained set lead to
+pub mod Reach
 -- Equal ids give equal messages, and agreement between two tables
 pub mod Tables
 -- A test over Tran of a place is a loop over places
@@ -44,3 +44,9 @@ pub mod Run
 pub mod ForkedRun
 -- The misreadings that document 01 shuts out, each with a case in which it would answer otherwise
 pub mod Misreadings
+-- PrevTran of the November text, as a chain that can be followed down
+pub mod PrevTran
+-- Both texts catch the same acceptors
+pub mod November
+-- A case of that, and one for each premise in which the texts differ without it
+pub mod NovemberCases

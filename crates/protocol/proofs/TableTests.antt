@@ -40,10 +40,12 @@ acceptedTest t ks = orderedTest t && all (acceptedAt t ks) ks
 pub accepted-of-test : (t : Table) (ks : List ℕ) → T (acceptedTest t ks) → Accepted t ks
 unfolding acceptedTest acceptedAt
 accepted-of-test t ks h = record {
-  ordered = ordered-of-test t (and-l (orderedTest t) (all (acceptedAt t ks) ks) h);
-  inside = λ i m. let c = one i m in ltb→lt i (length t) (search (and-l, and-r));
-  closed = λ i j m k. let c = one i m in listed j (all-out (λ j. any (λ k. eqb j k) ks) k (search (and-l, and-r)));
-  links = λ i m. let c = one i m in search (and-l, and-r);
+  chains = record {
+    ordered = ordered-of-test t (and-l (orderedTest t) (all (acceptedAt t ks) ks) h);
+    inside = λ i m. let c = one i m in ltb→lt i (length t) (search (and-l, and-r));
+    closed = λ i j m k. let c = one i m in listed j (all-out (λ j. any (λ k. eqb j k) ks) k (search (and-l, and-r)));
+    links = λ i m. let c = one i m in search (and-l, and-r);
+  };
   forms = λ i m. let c = one i m in search (and-l, and-r);
 }
   where

@@ -1,5 +1,5 @@
--- Two tables without colliding ids: equal ids have equal messages, the accepted messages of both are one lawful set, and so the reports of
--- the one and of the other agree.
+-- Two tables without colliding ids: equal ids have equal messages, the messages of both are one chained set and the accepted ones a lawful
+-- one, and so the reports of the one and of the other agree.
 use mathlib.Core.Path.{_≡_, refl, sym, ap, subst, _∙_}
 use mathlib.Core.Logic.{_⊎_, inl, inr}
 use mathlib.Core.List.{List, [], _∷_, _++_, List·Memᴰ·head, List·Memᴰ·tail, List·Memᴰ·append-cases, Memᴰ·append-left, Memᴰ·append-right, Memᴰ·cast}
@@ -11,10 +11,10 @@ use Rattle.base.proofs.Tests.{map-in, map-out}
 use Rattle.protocol.specs.Message.{Message, cons, tran, idOf}
 use Rattle.protocol.specs.WellFormed.{chained, formed1b}
 use Rattle.protocol.specs.Table.{Held, offers, says, Table, at, heldId, places, gather, nodeBy, tree, messages, idsAt, contentOf}
-use Rattle.protocol.specs.Theorems.{Lawful, Within, Accepted, NoCollision, TablesAgree}
+use Rattle.protocol.specs.Theorems.{Chained, Lawful, Within, ChainedAt, Accepted, NoCollision, TablesAgree}
 use Rattle.protocol.proofs.Agreement.{reportsAgree}
 use Rattle.protocol.proofs.Table.{tree-is, tree-id, tran-places}
-use Rattle.protocol.proofs.Accepted.{reach-accepted}
+use Rattle.protocol.proofs.Reach.{reach-inside}
 
 -- ---- equal ids, equal messages
 gather-same : (t u : Table) (r q : List ℕ) → idsAt t r ≡ idsAt u q
@@ -39,7 +39,7 @@ node-same t u (says i s p r) (says j v o q) d e f =
     let refs : gather (tree t) r ≡ gather (tree u) q = gather-same t u r q same f in
     cc
 
-module _ (t u : Table) (ks js : List ℕ) (at₁ : Accepted t ks) (at₂ : Accepted u js) (free : NoCollision t ks u js) where
+module _ (t u : Table) (ks js : List ℕ) (at₁ : ChainedAt t ks) (at₂ : ChainedAt u js) (free : NoCollision t ks u js) where
   same-bounded : (n i j : ℕ) → i < n → i ∈ ks → j ∈ js → heldId (at t i) ≡ heldId (at u j) → tree t i ≡ tree u j
   same-bounded zero i j h ki kj e = absurd (omega arith)
   same-bounded (suc n) i j h ki kj e =
@@ -62,10 +62,10 @@ messages-out t ks x h = map-out (tree t) ks h
 pub messages-within : (t : Table) (is ks : List ℕ) → Within is ks → Within (messages t is) (messages t ks)
 messages-within t is ks w x h = let (i, m, e) = messages-out t is x h in Memᴰ·cast e (messages-in t ks i (w i m))
 
--- ---- the accepted messages of both tables are a lawful set
-module _ (t u : Table) (ks js : List ℕ) (at₁ : Accepted t ks) (at₂ : Accepted u js)
+-- ---- the messages of both tables are a chained set, and the accepted ones a lawful one
+module _ (t u : Table) (ks js : List ℕ) (at₁ : ChainedAt t ks) (at₂ : ChainedAt u js)
     (free₁ : NoCollision t ks t ks) (free : NoCollision t ks u js) (free₂ : NoCollision u js u js) where
-  -- x is the message of an accepted place of one of them
+  -- x is the message of such a place of one of them
   abbrev Placed : Message → Type 0
   Placed x = ((i : ℕ) × (i ∈ ks) × (x ≡ tree t i)) ⊎ ((j : ℕ) × (j ∈ js) × (x ≡ tree u j))
 
@@ -80,10 +80,10 @@ module _ (t u : Table) (ks js : List ℕ) (at₁ : Accepted t ks) (at₂ : Accep
       step (inl q) = inl (messages-out t ks x q)
       step (inr q) = inr (messages-out u js x q)
 
-  beneath-of : (v : Table) (hs : List ℕ) → Accepted v hs → (m x : Message) (i : ℕ) → i ∈ hs → m ≡ tree v i → x ∈ tran m → (j : ℕ) × (j ∈ hs) × (x ≡ tree v j)
-  beneath-of v hs acc m x i k e h =
-      let (j, r, d) = tran-places v (acc .ordered) i x .0 (subst (λ (y : Message). x ∈ tran y) e h) in
-      (j, reach-accepted v hs acc i j k r, d)
+  beneath-of : (v : Table) (hs : List ℕ) → ChainedAt v hs → (m x : Message) (i : ℕ) → i ∈ hs → m ≡ tree v i → x ∈ tran m → (j : ℕ) × (j ∈ hs) × (x ≡ tree v j)
+  beneath-of v hs law m x i k e h =
+      let (j, r, d) = tran-places v (law .ordered) i x .0 (subst (λ (y : Message). x ∈ tran y) e h) in
+      (j, reach-inside v hs law i j k r, d)
 
   shut : (m x : Message) → Placed m → x ∈ tran m → Placed x
   shut m x (inl (i, k, e)) h = inl (beneath-of t ks at₁ m x i k e h)
@@ -102,13 +102,19 @@ module _ (t u : Table) (ks js : List ℕ) (at₁ : Accepted t ks) (at₂ : Accep
   each P f g m (inl (i, k, e)) = subst P (sym e) (f i k)
   each P f g m (inr (j, k, e)) = subst P (sym e) (g j k)
 
-  pub lawful : Lawful (messages t ks ++ messages u js)
-  lawful = record {
+  pub chained-set : Chained (messages t ks ++ messages u js)
+  chained-set = record {
     closed = λ m x h k. into x (shut m x (out m h) k);
     links = λ m h. each (λ m. T (chained m)) (at₁ .links) (at₂ .links) m (out m h);
-    forms = λ m h. each (λ m. T (formed1b m)) (at₁ .forms) (at₂ .forms) m (out m h);
     apart = λ x y h k e. one-id x y (out x h) (out y k) e;
   }
+
+  pub lawful-set : ((i : ℕ) → i ∈ ks → T (formed1b (tree t i))) → ((j : ℕ) → j ∈ js → T (formed1b (tree u j))) → Lawful (messages t ks ++ messages u js)
+  lawful-set forms₁ forms₂ = record { chains = chained-set; forms = λ m h. each (λ m. T (formed1b m)) forms₁ forms₂ m (out m h) }
+
+pub lawful : (t u : Table) (ks js : List ℕ) → Accepted t ks → Accepted u js → NoCollision t ks t ks → NoCollision t ks u js → NoCollision u js u js
+    → Lawful (messages t ks ++ messages u js)
+lawful t u ks js at₁ at₂ free₁ free free₂ = lawful-set t u ks js (at₁ .chains) (at₂ .chains) free₁ free free₂ (at₁ .forms) (at₂ .forms)
 
 -- ---- AGREEMENT BETWEEN TABLES
 pub tablesAgree : TablesAgree

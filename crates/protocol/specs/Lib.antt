@@ -14,3 +14,5 @@ pub mod Table
 pub mod Places
 -- The theorems, as statements: validity and agreement (theorems 21 and 22), and agreement between two tables
 pub mod Theorems
+-- Caught of the text of 19 November 2024 (its definitions 8 and 12), and that both texts catch the same acceptors
+pub mod November

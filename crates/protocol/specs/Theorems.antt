@@ -26,12 +26,16 @@ pub record SoundGraph (G : LearnerGraph) : Type 0 where
 abbrev pub Peopled : LearnerGraph → ℕ → Type 0
 Peopled G a = (q : ℕ) → q ∈ G .quorums a → (p : ℕ) × (p < G .acceptors) × T (has q p)
 
--- ---- a set of accepted messages: with a message, all of its Tran; chained; its 1bs well-formed; and told apart by their ids
-pub record Lawful (M : List Message) : Type 0 where
+-- ---- a set of messages whose chains can be followed: with a message, all of its Tran; chained; and told apart by their ids
+pub record Chained (M : List Message) : Type 0 where
   pub closed : (m x : Message) → m ∈ M → x ∈ tran m → x ∈ M
   pub links : (m : Message) → m ∈ M → T (chained m)
-  pub forms : (m : Message) → m ∈ M → T (formed1b m)
   pub apart : (x y : Message) → x ∈ M → y ∈ M → idOf x ≡ idOf y → x ≡ y
+
+-- a set of accepted messages: its 1bs are well-formed, too
+pub record Lawful (M : List Message) : Type 0 where
+  pub chains : Chained M
+  pub forms : (m : Message) → m ∈ M → T (formed1b m)
 
 -- p signed no two different acceptor messages of M that have the same previous id or both none
 abbrev pub Honest : List Message → ℕ → Type 0
@@ -72,12 +76,16 @@ ReportsAgree = (G : LearnerGraph) → SoundGraph G → (M : List Message) → La
     → (a b : ℕ) → a < G .learners → b < G .learners → Entangled G M a b
     → (K J : List Message) → Within K M → Within J M → Agree (report G K a) (report G J b)
 
--- ---- between tables. The places ks of t hold accepted messages, each checked on entry; with a place, so do those that it refers to.
-pub record Accepted (t : Table) (ks : List ℕ) : Type 0 where
+-- ---- between tables. The places ks of t, with a place those that it refers to, hold chained messages.
+pub record ChainedAt (t : Table) (ks : List ℕ) : Type 0 where
   pub ordered : Ordered t
   pub inside : (i : ℕ) → i ∈ ks → i < length t
   pub closed : (i j : ℕ) → i ∈ ks → j ∈ places (at t i) → j ∈ ks
   pub links : (i : ℕ) → i ∈ ks → T (chained (tree t i))
+
+-- they hold accepted messages, each checked on entry
+pub record Accepted (t : Table) (ks : List ℕ) : Type 0 where
+  pub chains : ChainedAt t ks
   pub forms : (i : ℕ) → i ∈ ks → T (formed1b (tree t i))
 
 -- no two different messages have one id: where ids are equal, so is what the bytes say

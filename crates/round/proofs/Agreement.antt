@@ -22,27 +22,17 @@ use Rattle.round.specs.Held.{graphOf, tableOf, knownPlaces}
 use Rattle.round.specs.Lists.{Call, run, lastRound, accepted, written, reports}
 use Rattle.round.specs.Demands.{IdRule, Starts, SafeEdge, NoCollision, OneValue, AgreementOverLists}
 use Rattle.round.proofs.CallLaws.{CallLaws}
+use Rattle.round.proofs.TwoLists.{restricted, Both, first-list, second-list}
 use Rattle.round.proofs.Reached.{Reached}
-use Rattle.round.proofs.Known.{accepted-places, heard, no-collision, reached-last}
+use Rattle.round.proofs.Known.{accepted-places, heard, known-apart, reached-last}
 use Rattle.round.proofs.Equivocation.{Read, heard-read, caught-equivocates}
 use Rattle.round.proofs.Reporting.{Reports, decided-over, split-over, one-value, not-split}
-
--- ---- messages told apart by their ids, in part of a list
-restricted : {H : List ℕ → Id} {L M : List (List ℕ)} → Within L M → NoCollision H M → NoCollision H L
-restricted inM free m n i j e = free m n (inM m i) (inM n j) e
-
-joined : {L K M : List (List ℕ)} → Within L M → Within K M → Within (L ++ K) M
-joined {L} {K} {M} f g m i = step (List·Memᴰ·append-cases L i)
-  where
-    step : (m ∈ L) ⊎ (m ∈ K) → m ∈ M
-    step (inl j) = f m j
-    step (inr j) = g m j
 
 module _ (laws : CallLaws) (H : List ℕ → Id) (rule : IdRule H) (file : List ℕ) (house bay ownA ownB : ℕ) (rA rB : Round)
     (startsA : Starts file house bay ownA rA) (startsB : Starts file house bay ownB rB) (a b : ℕ) (la : a < rA .graph .learners) (lb : b < rA .graph .learners) (lA lB : List Call)
     (edge : SafeEdge (graphOf rA) (accepted (run H rA lA) ++ accepted (run H rB lB)) a b)
     (free : NoCollision H ((accepted (run H rA lA) ++ accepted (run H rB lB)) ++ (written (run H rA lA) ++ written (run H rB lB)))) where
-  -- what was accepted and written, by A, by B and in all
+  -- what was accepted and written, by A and by B
   abbrev AA : List (List ℕ)
   AA = accepted (run H rA lA)
 
@@ -55,26 +45,11 @@ module _ (laws : CallLaws) (H : List ℕ → Id) (rule : IdRule H) (file : List 
   abbrev WB : List (List ℕ)
   WB = written (run H rB lB)
 
-  abbrev All : List (List ℕ)
-  All = (AA ++ AB) ++ (WA ++ WB)
-
-  inAA : Within AA All
-  inAA m i = Memᴰ·append-left (WA ++ WB) (Memᴰ·append-left AB i)
-
-  inAB : Within AB All
-  inAB m i = Memᴰ·append-left (WA ++ WB) (Memᴰ·append-right AA i)
-
-  inWA : Within WA All
-  inWA m i = Memᴰ·append-right (AA ++ AB) (Memᴰ·append-left WB i)
-
-  inWB : Within WB All
-  inWB m i = Memᴰ·append-right (AA ++ AB) (Memᴰ·append-right WA i)
-
   freeA : NoCollision H (AA ++ WA)
-  freeA = restricted (joined inAA inWA) free
+  freeA = restricted (first-list AA AB WA WB) free
 
   freeB : NoCollision H (AB ++ WB)
-  freeB = restricted (joined inAB inWB) free
+  freeB = restricted (second-list AA AB WA WB) free
 
   -- the last rounds, and their known messages
   abbrev endA : Round
@@ -94,9 +69,13 @@ module _ (laws : CallLaws) (H : List ℕ → Id) (rule : IdRule H) (file : List 
 
   law : Lawful M
   law = lawful (tableOf endA) (tableOf endB) (knownPlaces endA) (knownPlaces endB) (accepted-places reachedA freeA) (accepted-places reachedB freeB)
-      (no-collision inAA inAA free (heard reachedA freeA) (heard reachedA freeA))
-      (no-collision inAA inAB free (heard reachedA freeA) (heard reachedB freeB))
-      (no-collision inAB inAB free (heard reachedB freeB) (heard reachedB freeB))
+      (known-apart reachedA reachedA inA inA free) (known-apart reachedA reachedB inA inB free) (known-apart reachedB reachedB inB inB free)
+    where
+      inA : Within (AA ++ WA) (Both AA AB WA WB)
+      inA = first-list AA AB WA WB
+
+      inB : Within (AB ++ WB) (Both AA AB WA WB)
+      inB = second-list AA AB WA WB
 
   read : (x : Message) → x ∈ M → Read H (AA ++ AB) x
   read x m = step (List·Memᴰ·append-cases (messages (tableOf endA) (knownPlaces endA)) m)

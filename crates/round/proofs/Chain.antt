@@ -1,22 +1,30 @@
 -- Demand 3, the chain of replies: what is last sent is the message written last, or none, all along a list of calls.
 use mathlib.Core.Path.{_≡_, refl, sym, ap, subst, _∙_}
 use mathlib.Core.Logic.{_⊎_, inl, inr, _≢_}
-use mathlib.Core.Option.{Option, some}
-use mathlib.Core.List.{List, [], _∷_}
+use mathlib.Core.Option.{Option, none, some}
+use mathlib.Core.List.{List, [], _∷_, List·Memᴰ·head, List·Memᴰ·tail}
 use Prim.Native.Nat.{ℕ}
+use native.Mathlib.Omega.{arith}
 use lib.ListN.{length, take}
+use Rattle.base.specs.Tests.{_∈_}
 use Rattle.base.specs.declared.refusal.Refusal.{Refusal}
+use Rattle.message.specs.Reader.{reading}
 use Rattle.message.specs.Writer.{fronted}
+use Rattle.message.specs.declared.AcceptorMessage.{AcceptorMessage}
+use Rattle.message.specs.declared.Reading.the-variants.{OfAcceptor}
 use Rattle.protocol.specs.Ids.{Id}
+use Rattle.protocol.specs.Theorems.{Within}
 use Rattle.round.specs.Round.{Round}
 use Rattle.round.specs.declared.Outcome.{Outcome}
 use Rattle.round.specs.declared.Outcome.the-variants as outcome
 use Rattle.round.specs.Held.{named}
+use Rattle.round.specs.Rows.{previousId}
 use Rattle.round.specs.Delivery.{Result, delivery, replied}
 use Rattle.round.specs.Lists.{Call, deliver, report, run, writtenBy, written}
-use Rattle.round.specs.Demands.{IdRule, Typed, Names, ChainFrom, ChainOfReplies}
+use Rattle.round.specs.Demands.{IdRule, Starts, Typed, Names, ChainFrom, ChainOfReplies}
 use Rattle.round.proofs.Step.{Silent, Sends, Step}
 use Rattle.round.proofs.CallLaws.{CallLaws}
+use Rattle.round.proofs.Kept.{IdFrom}
 use Rattle.round.proofs.Lists.{refused-or-not, reply-in-front}
 
 -- ---- what one call adds to the written messages `rest` of the calls behind it. p is last sent before the call, q after it.
@@ -66,8 +74,33 @@ module _ (laws : CallLaws) where
           chain-step H (named r (r .last)) (named (delivery H r b buffer .round) (delivery H r b buffer .round .last)) (written (run H (delivery H r b buffer .round) l))
           (rest (delivery H r b buffer .round) (s .typed)) r b buffer (delivery H r b buffer) s refl refl
 
-  -- THE CHAIN OF REPLIES
-  pub chainOfReplies : ChainOfReplies
-  chainOfReplies H rule file house bay own r starts voting l =
+  pub chain-of-list : (H : List ℕ → Id) → IdRule H → (file : List ℕ) (house bay own : ℕ) (r : Round) → Starts file house bay own r
+      → (l : List Call) → ChainFrom H none (written (run H r l))
+  chain-of-list H rule file house bay own r starts l =
       let fresh = laws .opening file house bay own r starts in
       subst (λ (n : Option Id). ChainFrom H n (written (run H r l))) (fresh .unsent) (chain-from H rule l r (fresh .typed))
+
+  -- THE CHAIN OF REPLIES
+  pub chainOfReplies : ChainOfReplies
+  chainOfReplies H rule file house bay own r starts voting l = chain-of-list H rule file house bay own r starts l
+
+-- ---- so each written message names none or a written one
+named-before : (H : List ℕ → Id) (p : Option Id) (W l : List (List ℕ)) → ((i : Id) → p ≡ some i → IdFrom H W i) → Within l W → ChainFrom H p l
+    → (z : List ℕ) → z ∈ l → (f : AcceptorMessage) → reading z ≡ OfAcceptor f → (i : Id) → previousId z f ≡ some i → IdFrom H W i
+unfolding ChainFrom
+named-before H p W [] before inW chain z m f read i e = elim m [ ]
+named-before H p W (y ∷ l) before inW ((g, said, names), chain) z m f read i e = step (λ k. named-before H (some (H y)) W l next (λ x k. inW x (List·Memᴰ·tail k)) chain z k f read i e) m
+  where
+    next : (j : Id) → some (H y) ≡ some j → IdFrom H W j
+    next j d = (y, inW y (List·Memᴰ·head refl), cc)
+
+    step : (z ∈ l → IdFrom H W i) → z ∈ y ∷ l → IdFrom H W i
+    step rest (List·Memᴰ·head q) =
+        let one : OfAcceptor f ≡ OfAcceptor g = sym read ∙ ap reading q ∙ said in
+        let same : f ≡ g = cc in
+        before i (sym names ∙ sym (λ j. previousId (q j) (same j)) ∙ e)
+    step rest (List·Memᴰ·tail k) = rest k
+
+pub written-names-written : (H : List ℕ → Id) (W : List (List ℕ)) → ChainFrom H none W
+    → (z : List ℕ) → z ∈ W → (f : AcceptorMessage) → reading z ≡ OfAcceptor f → (i : Id) → previousId z f ≡ some i → IdFrom H W i
+written-names-written H W chain = named-before H none W W (λ i e. let x : _≡_ {A = ℕ} 0 1 = cc in absurd (omega arith)) (λ m k. k) chain

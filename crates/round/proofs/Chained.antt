@@ -1,5 +1,5 @@
--- All along a list of calls last sent is in recent, so each written message refers to the previous one that it names; and recent holds no
--- proposal.
+-- All along a list of calls last sent is in recent, so each written message refers to the previous one that it names; it is the own acceptor's; and
+-- recent holds no proposal.
 use mathlib.Core.Path.{_≡_, refl, sym, subst, _∙_}
 use mathlib.Core.Logic.{_⊎_, inl, inr, _≢_}
 use mathlib.Core.Option.{none, some}
@@ -20,19 +20,20 @@ use Rattle.round.specs.Held.{named}
 use Rattle.round.specs.Rows.{referenceIds, previousId}
 use Rattle.round.specs.Delivery.{delivery, replied}
 use Rattle.round.specs.Lists.{Call, deliver, report, after, run, lastRound, writtenBy, written}
-use Rattle.round.specs.Demands.{IdRule, Typed, ReplySays, ReplyIsChained, RecentHoldsVotes}
+use Rattle.round.specs.Demands.{IdRule, Starts, Typed, ReplySays, ReplyIsChained, RecentHoldsVotes}
 use Rattle.round.proofs.Recent.{RecentHolds}
 use Rattle.round.proofs.OneDelivery.{tells}
 use Rattle.round.proofs.OneCall.{refused-leaves-all, reply-reads-back}
 use Rattle.round.proofs.JustOpened.{opened-round}
+use Rattle.round.proofs.Reached.{step-grows}
 use Rattle.round.proofs.Lists.{refused-or-not}
 
--- z is an acceptor message that refers to the previous one it names
-abbrev Chained : List ℕ → Type 0
-Chained z = (f : AcceptorMessage) × (reading z ≡ OfAcceptor f) × ((i : Id) → previousId z f ≡ some i → i ∈ referenceIds z f)
+-- z is a message of the acceptor `own` that refers to the previous one it names
+abbrev Chained : ℕ → List ℕ → Type 0
+Chained own z = (f : AcceptorMessage) × (reading z ≡ OfAcceptor f) × (f .signer ≡ own) × ((i : Id) → previousId z f ≡ some i → i ∈ referenceIds z f)
 
-chained-reply : (r : Round) (m : Id) (z : List ℕ) → RecentHolds r → ReplySays r m z → Chained z
-chained-reply r m z inv (f, read, house, bay, own, last, refs) = (f, read, λ i e. refs i .1 (inr (inv .last i (sym last ∙ e))))
+chained-reply : (r : Round) (m : Id) (z : List ℕ) → RecentHolds r → ReplySays r m z → Chained (r .own) z
+chained-reply r m z inv (f, read, house, bay, own, last, refs) = (f, read, own, λ i e. refs i .1 (inr (inv .last i (sym last ∙ e))))
 
 written-cases : (o : Outcome) (buffer : List ℕ) (l : List (List ℕ)) (z : List ℕ) → z ∈ writtenBy o buffer l → ((n : ℕ) × (o ≡ outcome.Replied n) × (z ≡ take n buffer)) ⊎ (z ∈ l)
 written-cases (outcome.Refused e) buffer l z m = inr m
@@ -41,47 +42,56 @@ written-cases (outcome.Replied n) buffer l z (List·Memᴰ·head e) = inl (n, re
 written-cases (outcome.Replied n) buffer l z (List·Memᴰ·tail m) = inr m
 
 -- ---- the invariant is kept by each call
-module _ (H : List ℕ → Id) (rule : IdRule H) where
-  call-keeps : (r : Round) (c : Call) → Typed r → RecentHolds r → Typed (after H r c) × RecentHolds (after H r c)
-  call-keeps r (report a) typed inv = (typed, inv)
-  call-keeps r (deliver b buffer) typed inv = step (refused-or-not (delivery H r b buffer .outcome))
+record Holds (own : ℕ) (r : Round) : Type 0 where
+  typed : Typed r
+  owned : r .own ≡ own
+  recent : RecentHolds r
+
+module _ (H : List ℕ → Id) (rule : IdRule H) (own : ℕ) where
+  call-keeps : (r : Round) (c : Call) → Holds own r → Holds own (after H r c)
+  call-keeps r (report a) inv = inv
+  call-keeps r (deliver b buffer) inv = step (refused-or-not (delivery H r b buffer .outcome))
     where
       step : ((e : Refusal) × (delivery H r b buffer .outcome ≡ outcome.Refused e)) ⊎ ((e : Refusal) → delivery H r b buffer .outcome ≢ outcome.Refused e)
-          → Typed (delivery H r b buffer .round) × RecentHolds (delivery H r b buffer .round)
-      step (inl (e, d)) = subst (λ (s : Round). Typed s × RecentHolds s) (sym (refused-leaves-all H r b buffer e d .0)) (typed, inv)
-      step (inr kept) = let t = tells H rule r typed b buffer kept in (t .step .typed, t .recent inv)
+          → Holds own (delivery H r b buffer .round)
+      step (inl (e, d)) = subst (Holds own) (sym (refused-leaves-all H r b buffer e d .0)) inv
+      step (inr kept) =
+          let t = tells H rule r (inv .typed) b buffer kept in
+          record { typed = t .step .typed; owned = sym (step-grows (t .step) .same .own) ∙ inv .owned; recent = t .recent (inv .recent) }
 
   -- ---- so each written message of a list is chained
-  list-chained : (l : List Call) (r : Round) → Typed r → RecentHolds r → (z : List ℕ) → z ∈ written (run H r l) → Chained z
+  list-chained : (l : List Call) (r : Round) → Holds own r → (z : List ℕ) → z ∈ written (run H r l) → Chained own z
   unfolding run written
-  list-chained [] r typed inv z m = elim m [ ]
-  list-chained (report a ∷ l) r typed inv z m = list-chained l r typed inv z m
-  list-chained (deliver b buffer ∷ l) r typed inv z m =
-      let (t, i) = call-keeps r (deliver b buffer) typed inv in
-      step (list-chained l (delivery H r b buffer .round) t i z)
+  list-chained [] r inv z m = elim m [ ]
+  list-chained (report a ∷ l) r inv z m = list-chained l r inv z m
+  list-chained (deliver b buffer ∷ l) r inv z m =
+      step (list-chained l (delivery H r b buffer .round) (call-keeps r (deliver b buffer) inv) z)
       (written-cases (delivery H r b buffer .outcome) (replied H r b buffer) (written (run H (delivery H r b buffer .round) l)) z m)
     where
-      step : (z ∈ written (run H (delivery H r b buffer .round) l) → Chained z)
+      step : (z ∈ written (run H (delivery H r b buffer .round) l) → Chained own z)
           → ((n : ℕ) × (delivery H r b buffer .outcome ≡ outcome.Replied n) × (z ≡ take n (replied H r b buffer))) ⊎ (z ∈ written (run H (delivery H r b buffer .round) l))
-          → Chained z
-      step rest (inl (n, d, e)) = subst Chained (sym e) (chained-reply r (H b) (take n (replied H r b buffer)) inv (reply-reads-back H rule r typed b buffer n d))
+          → Chained own z
+      step rest (inl (n, d, e)) =
+          let said = chained-reply r (H b) (take n (replied H r b buffer)) (inv .recent) (reply-reads-back H rule r (inv .typed) b buffer n d) in
+          subst (λ (p : ℕ). Chained p z) (inv .owned) (subst (Chained (r .own)) (sym e) said)
       step rest (inr k) = rest k
 
-  list-holds : (l : List Call) (r : Round) → Typed r → RecentHolds r → RecentHolds (lastRound H r l)
+  list-holds : (l : List Call) (r : Round) → Holds own r → Holds own (lastRound H r l)
   unfolding lastRound
-  list-holds [] r typed inv = inv
-  list-holds (c ∷ l) r typed inv = let (t, i) = call-keeps r c typed inv in list-holds l (after H r c) t i
+  list-holds [] r inv = inv
+  list-holds (c ∷ l) r inv = list-holds l (after H r c) (call-keeps r c inv)
 
 -- a round that was just opened has sent nothing and holds nothing
 nothing-yet : (r : Round) → named r (r .last) ≡ none → r .held ≡ 0 → RecentHolds r
 nothing-yet r e z = record { last = λ i d. let z : _≡_ {A = ℕ} 0 1 = cc in absurd (omega arith); votes = λ q l. absurd (omega arith) }
 
-pub replyIsChained : ReplyIsChained
-replyIsChained H rule file house bay own r starts l z m =
+opened-holds : (file : List ℕ) (house bay own : ℕ) (r : Round) → Starts file house bay own r → Holds own r
+opened-holds file house bay own r starts =
     let o = opened-round file house bay own r starts in
-    list-chained H rule l r (o .typed) (nothing-yet r (o .last) (o .held)) z m
+    record { typed = o .typed; owned = o .own′; recent = nothing-yet r (o .last) (o .held) }
+
+pub replyIsChained : ReplyIsChained
+replyIsChained H rule file house bay own r starts l z m = list-chained H rule own l r (opened-holds file house bay own r starts) z m
 
 pub recentHoldsVotes : RecentHoldsVotes
-recentHoldsVotes H rule file house bay own r starts l q =
-    let o = opened-round file house bay own r starts in
-    list-holds H rule l r (o .typed) (nothing-yet r (o .last) (o .held)) .votes q
+recentHoldsVotes H rule file house bay own r starts l q = list-holds H rule own l r (opened-holds file house bay own r starts) .recent .votes q

@@ -12,7 +12,7 @@ use Rattle.graphfile.proofs.Whole.{reading-answer}
 use Rattle.graphfile.proofs.Accepted.{acceptedIsSound, undirected-symmetric}
 use Rattle.graphfile.proofs.Peopled.{accepted-peopled}
 use Rattle.protocol.specs.Theorems.{SoundGraph, Peopled}
-use Rattle.round.specs.Demands.{AgreementOverLists, ChainOfReplies, DemandThree, ReachedFits, KnownBeneath, ValidityOverLists}
+use Rattle.round.specs.Demands.{AgreementOverLists, ChainOfReplies, DemandThree, ReachedFits, KnownBeneath, ValidityOverLists, SameCaughtOverLists, OneCaughtList}
 use Rattle.round.proofs.CallLaws.{OpeningLaw, CallLaws}
 use Rattle.round.proofs.JustOpened.{opened-round}
 use Rattle.round.proofs.OneDelivery.{step}
@@ -22,6 +22,7 @@ use Rattle.round.proofs.Agreement as agreement
 use Rattle.round.proofs.Chain as chain
 use Rattle.round.proofs.Known as known
 use Rattle.round.proofs.Validity as validity
+use Rattle.round.proofs.November as november
 
 -- the graph of an accepted file
 sound-file : (file : List ℕ) → answerOf file ≡ Accepted → SoundGraph (viewOf (readingOf file .graph))
@@ -67,3 +68,9 @@ knownBeneath = known.knownBeneath callLaws
 
 pub validityOverLists : ValidityOverLists
 validityOverLists = validity.validityOverLists callLaws
+
+pub sameCaughtOverLists : SameCaughtOverLists
+sameCaughtOverLists = november.sameCaughtOverLists callLaws
+
+pub oneCaughtList : OneCaughtList
+oneCaughtList = november.oneCaughtList callLaws

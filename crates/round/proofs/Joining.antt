@@ -14,7 +14,7 @@ use Rattle.protocol.specs.Table.{Held, offers, says, Table, at, heldId, offered
 use Rattle.protocol.proofs.Table.{at-past, nothing-past}
 use Rattle.protocol.proofs.Growth.{at-append, at-end, tree-append, content-append, ordered-snoc, tree-end}
 use Rattle.round.proofs.Canonical.{Canonical, canonical-stays}
-use Rattle.round.proofs.Kept.{Source, AcceptedId, Checks, checks-cast, Kept}
+use Rattle.round.proofs.Kept.{Source, IdFrom, Checks, checks-cast, Kept}
 
 -- ---- what a record says stays as the table grows
 ids-stay : (t u : Table) (l : List ℕ) → ((j : ℕ) → j ∈ l → j < length t) → idsAt (t ++ u) l ≡ idsAt t l
@@ -70,18 +70,21 @@ module _ {H : List ℕ → Id} {A W : List (List ℕ)} {t : Table} {k : ℕ → 
           i (ltb→lt i (length longer) b) m
       step (inr b) = absurd (nothing-past (subst (λ (q : Held). j ∈ places q) (at-past longer i (nltb→le i (length longer) b)) m))
 
-  -- the new place is known only if its id was accepted and it has passed the checks
+  -- the new place is known only if its id was accepted and it has passed the checks, and awaits its return only if its id was written
   pub kept-snoc : (l : ℕ → Bool) → ((p : ℕ) → p < length t → l p ≡ k p)
-      → (T (l (length t)) → AcceptedId H A (heldId h)) → (T (l (length t)) → Checks k h (nodeBy (tree t) h)) → Kept H A W longer l
-  kept-snoc l e inA checks = record {
+      → (T (l (length t)) → IdFrom H A (heldId h)) → (T (not (l (length t))) → IdFrom H W (heldId h)) → (T (l (length t)) → Checks k h (nodeBy (tree t) h)) → Kept H A W longer l
+  kept-snoc l e inA inW checks = record {
     ordered = ordered-longer;
     canonical = canonical-longer;
     source = each (λ p. Source H A W longer (at longer p))
         (λ p b. source-cast t longer (at t p) (at longer p) (sym (at-append t (h ∷ []) p b)) (content-append t (h ∷ []) (kept .ordered) p b) (kept .source p b))
         (source-cast t longer h (at longer (length t)) (sym (at-end t h)) (ap (contentOf longer) (at-end t h) ∙ content-stays t (h ∷ []) h earlier) source);
-    delivered = each (λ p. T (l p) → AcceptedId H A (heldId (at longer p)))
-        (λ p b x. subst (λ (q : Held). AcceptedId H A (heldId q)) (sym (at-append t (h ∷ []) p b)) (kept .delivered p b (subst T (e p b) x)))
-        (λ x. subst (λ (q : Held). AcceptedId H A (heldId q)) (sym (at-end t h)) (inA x));
+    delivered = each (λ p. T (l p) → IdFrom H A (heldId (at longer p)))
+        (λ p b x. subst (λ (q : Held). IdFrom H A (heldId q)) (sym (at-append t (h ∷ []) p b)) (kept .delivered p b (subst T (e p b) x)))
+        (λ x. subst (λ (q : Held). IdFrom H A (heldId q)) (sym (at-end t h)) (inA x));
+    awaited = each (λ p. T (not (l p)) → IdFrom H W (heldId (at longer p)))
+        (λ p b x. subst (λ (q : Held). IdFrom H W (heldId q)) (sym (at-append t (h ∷ []) p b)) (kept .awaited p b (subst (λ (c : Bool). T (not c)) (e p b) x)))
+        (λ x. subst (λ (q : Held). IdFrom H W (heldId q)) (sym (at-end t h)) (inW x));
     checked = λ free. each (λ p. T (l p) → Checks l (at longer p) (tree longer p))
         (λ p b x. checks-cast k l (at t p) (at longer p) (tree t p) (tree longer p) (sym (at-append t (h ∷ []) p b)) (sym (tree-append t (h ∷ []) (kept .ordered) p b))
         (λ j m. known-still j (omega (arith, kept .ordered p j m))) (kept .checked free p b (subst T (e p b) x)))

@@ -7,7 +7,7 @@ use mathlib.Core.List.{List, [], _++_, Memᴰ·append-left, Memᴰ·append-right
 use Prim.Native.Nat.{ℕ, _<_}
 use native.Mathlib.Omega.{arith}
 use lib.ListN.{length}
-use lib.Dec.{T, eqb, eqb→eq}
+use lib.Dec.{T, eqb, eqb→eq, T-not, not-T}
 use Rattle.base.specs.Tests.{_∈_}
 use Rattle.base.proofs.Tests.{or-l, or-out}
 use Rattle.protocol.specs.Ids.{Id}
@@ -28,9 +28,17 @@ pub record Source (H : List ℕ → Id) (A W : List (List ℕ)) (t : Table) (h :
   pub id : heldId h ≡ H bytes
   pub content : contentOf t h ≡ contentIn bytes
 
--- an id that was accepted
-abbrev pub AcceptedId : (List ℕ → Id) → List (List ℕ) → Id → Type 0
-AcceptedId H A i = (b : List ℕ) × (b ∈ A) × (i ≡ H b)
+-- its bytes are among those accepted and written
+pub source-inside : {H : List ℕ → Id} {A W : List (List ℕ)} {t : Table} {h : Held} (s : Source H A W t h) → s .bytes ∈ A ++ W
+source-inside {A = A} {W = W} {h = h} s = step (s .from)
+  where
+    step : (s .bytes ∈ A) ⊎ ((s .bytes ∈ W) × T (not (offered h))) → s .bytes ∈ A ++ W
+    step (inl m) = Memᴰ·append-left W m
+    step (inr (m, _)) = Memᴰ·append-right A m
+
+-- the id of some bytes of M
+abbrev pub IdFrom : (List ℕ → Id) → List (List ℕ) → Id → Type 0
+IdFrom H M i = (b : List ℕ) × (b ∈ M) × (i ≡ H b)
 
 -- the record h with the message m has passed the checks: its references are known, it is chained, and well-formed if it is a 1b
 pub record Checks (known : ℕ → Bool) (h : Held) (m : Message) : Type 0 where
@@ -39,13 +47,14 @@ pub record Checks (known : ℕ → Bool) (h : Held) (m : Message) : Type 0 where
   pub forms : T (formed1b m)
 
 -- THE INVARIANT of a table t with known places: references are to earlier places, each the one that its id names; every record is that of
--- bytes accepted or written; what is known has an accepted id; and, where no two different messages have one id, what is known has passed
--- the checks.
+-- bytes accepted or written; what is known has an accepted id, and what awaits its return a written one; and, where no two different messages
+-- have one id, what is known has passed the checks.
 pub record Kept (H : List ℕ → Id) (A W : List (List ℕ)) (t : Table) (known : ℕ → Bool) : Type 0 where
   pub ordered : Ordered t
   pub canonical : (i j : ℕ) → j ∈ places (at t i) → Canonical t j
   pub source : (p : ℕ) → p < length t → Source H A W t (at t p)
-  pub delivered : (p : ℕ) → p < length t → T (known p) → AcceptedId H A (heldId (at t p))
+  pub delivered : (p : ℕ) → p < length t → T (known p) → IdFrom H A (heldId (at t p))
+  pub awaited : (p : ℕ) → p < length t → T (not (known p)) → IdFrom H W (heldId (at t p))
   pub checked : NoCollision H (A ++ W) → (p : ℕ) → p < length t → T (known p) → Checks known (at t p) (tree t p)
 
 pub checks-cast : (k l : ℕ → Bool) (h g : Held) (m n : Message) → h ≡ g → m ≡ n → ((j : ℕ) → j ∈ places h → T (k j) → T (l j)) → Checks k h m → Checks l g n
@@ -62,13 +71,14 @@ kept-nil H A W known = record {
   canonical = λ i j m. absurd (nothing-past (subst (λ (q : Held). j ∈ places q) (at-past [] i (omega arith)) m));
   source = λ p l. absurd (omega arith);
   delivered = λ p l. absurd (omega arith);
+  awaited = λ p l. absurd (omega arith);
   checked = λ free p l. absurd (omega arith);
 }
 
 -- ---- the table stays, and more places may be known
 -- the place p may become known: its id was accepted, and it has passed the checks
 pub record Enters (H : List ℕ → Id) (A W : List (List ℕ)) (t : Table) (known : ℕ → Bool) (p : ℕ) : Type 0 where
-  pub delivered : AcceptedId H A (heldId (at t p))
+  pub delivered : IdFrom H A (heldId (at t p))
   pub checked : NoCollision H (A ++ W) → Checks known (at t p) (tree t p)
 
 module _ {H : List ℕ → Id} {A W : List (List ℕ)} {t : Table} {k : ℕ → Bool} (kept : Kept H A W t k) where
@@ -78,11 +88,12 @@ module _ {H : List ℕ → Id} {A W : List (List ℕ)} {t : Table} {k : ℕ → 
     canonical = kept .canonical;
     source = kept .source;
     delivered = λ p b h. id-of p b (new p b h);
+    awaited = λ p b h. kept .awaited p b (not-T (k p) (λ x. T-not (l p) h (more p b x)));
     checked = λ free p b h. let c = checks-of free p b (new p b h) in
         checks-cast k l (at t p) (at t p) (tree t p) (tree t p) refl refl (λ j m. more j (omega (arith, kept .ordered p j m))) c;
   }
     where
-      id-of : (p : ℕ) → p < length t → T (k p) ⊎ Enters H A W t k p → AcceptedId H A (heldId (at t p))
+      id-of : (p : ℕ) → p < length t → T (k p) ⊎ Enters H A W t k p → IdFrom H A (heldId (at t p))
       id-of p b (inl h) = kept .delivered p b h
       id-of p b (inr h) = h .delivered
 
@@ -112,13 +123,9 @@ module _ {H : List ℕ → Id} {A W : List (List ℕ)} {t : Table} {k : ℕ → 
       src : Source H A W t (at t p)
       src = kept .source p l
 
-      inAny : (src .bytes ∈ A) ⊎ ((src .bytes ∈ W) × T (not (offered (at t p)))) → src .bytes ∈ A ++ W
-      inAny (inl m) = Memᴰ·append-left W m
-      inAny (inr (m, _)) = Memᴰ·append-right A m
-
       one : NoCollision H (A ++ W) → h ≡ at t p
       one free =
-          let same : src .bytes ≡ b = free (src .bytes) b (inAny (src .from)) (Memᴰ·append-left W inA) (sym (src .id) ∙ i) in
+          let same : src .bytes ≡ b = free (src .bytes) b (source-inside src) (Memᴰ·append-left W inA) (sym (src .id) ∙ i) in
           same-record t h (at t p) (j ∙ sym i) (c ∙ ap contentIn (sym same) ∙ sym (src .content)) f (λ q m. kept .canonical p q m)
 
       checked-as : h ≡ at t p → Checks k (at t p) (tree t p)

@@ -1,9 +1,8 @@
 -- The known places of a round reached by calls: each holds accepted bytes, and they are accepted places in the words of the crate protocol.
--- So a round reached from an opening passes 17, and what lies beneath a known message is known.
+-- So a round reached from an opening passes 17, and what lies beneath a known message is known. And where messages are told apart by their ids, one id
+-- has one content, in one round and in two.
 use mathlib.Core.Path.{_≡_, sym, ap, _∙_}
-use mathlib.Core.Logic.{_⊎_, inl, inr}
-use mathlib.Core.Bool.{not}
-use mathlib.Core.List.{List, _++_, Memᴰ·cast, Memᴰ·append-left, Memᴰ·append-right}
+use mathlib.Core.List.{List, _++_, Memᴰ·cast, Memᴰ·append-left}
 use Prim.Native.Nat.{ℕ, _<_}
 use native.Mathlib.Omega.{arith}
 use lib.ListN.{length}
@@ -11,10 +10,10 @@ use lib.Dec.{T}
 use Rattle.base.specs.Tests.{_∈_, below}
 use Rattle.base.proofs.Tests.{filter-in, filter-out, below-in, below-out}
 use Rattle.protocol.specs.Ids.{Id}
-use Rattle.protocol.specs.Table.{Table, at, heldId, offered, content}
+use Rattle.protocol.specs.Table.{Table, at, heldId, content}
 use Rattle.protocol.specs.Theorems.{Within, Accepted}
 use Rattle.protocol.specs.Theorems as theorems
-use Rattle.protocol.proofs.Accepted.{reach-accepted}
+use Rattle.protocol.proofs.Reach.{reach-inside}
 use Rattle.round.specs.Round.{Round}
 use Rattle.round.specs.declared.Report.{Report}
 use Rattle.round.specs.Held.{tableOf, isKnown, knownPlaces}
@@ -23,7 +22,7 @@ use Rattle.round.specs.Demands.{IdRule, Starts, NoCollision, ReachedFits
 use Rattle.round.proofs.Step.{contentIn, Readable}
 use Rattle.round.proofs.CallLaws.{CallLaws}
 use Rattle.round.proofs.Canonical.{table-size}
-use Rattle.round.proofs.Kept.{Source}
+use Rattle.round.proofs.Kept.{Source, source-inside}
 use Rattle.round.proofs.Reached.{Reached, Grows, grows-size}
 use Rattle.round.proofs.Lists.{Stands, fresh-reached, list-keeps, report-stands}
 
@@ -52,36 +51,46 @@ module _ {H : List ℕ → Id} {A W : List (List ℕ)} {r : Round} (reached : Re
 
   pub accepted-places : Accepted (tableOf r) (knownPlaces r)
   accepted-places = record {
-    ordered = reached .kept .ordered;
-    inside = inside;
-    closed = λ i j m k. known-in r j (omega (arith, reached .kept .ordered i j k, known-out r i m .0)) (reached .kept .checked free i (inside i m) (known-out r i m .1) .beneath j k);
-    links = λ i m. reached .kept .checked free i (inside i m) (known-out r i m .1) .links;
+    chains = record {
+      ordered = reached .kept .ordered;
+      inside = inside;
+      closed = λ i j m k. known-in r j (omega (arith, reached .kept .ordered i j k, known-out r i m .0)) (reached .kept .checked free i (inside i m) (known-out r i m .1) .beneath j k);
+      links = λ i m. reached .kept .checked free i (inside i m) (known-out r i m .1) .links;
+    };
     forms = λ i m. reached .kept .checked free i (inside i m) (known-out r i m .1) .forms;
   }
 
   pub heard : (p : ℕ) → p ∈ knownPlaces r → Heard H A (tableOf r) p
   heard p m = step (reached .kept .source p (inside p m)) (reached .kept .delivered p (inside p m) (known-out r p m .1))
     where
-      inAny : {b : List ℕ} → (b ∈ A) ⊎ ((b ∈ W) × T (not (offered (at (tableOf r) p)))) → b ∈ A ++ W
-      inAny (inl i) = Memᴰ·append-left W i
-      inAny (inr (i, _)) = Memᴰ·append-right A i
-
       step : Source H A W (tableOf r) (at (tableOf r) p) → (b : List ℕ) × (b ∈ A) × (heldId (at (tableOf r) p) ≡ H b) → Heard H A (tableOf r) p
       step s (b, i, e) = record {
         bytes = s .bytes;
-        inside = Memᴰ·cast (free (s .bytes) b (inAny (s .from)) (Memᴰ·append-left W i) (sym (s .id) ∙ e)) i;
+        inside = Memᴰ·cast (free (s .bytes) b (source-inside s) (Memᴰ·append-left W i) (sym (s .id) ∙ e)) i;
         readable = s .readable;
         id = s .id;
         contents = s .content;
       }
 
--- two rounds whose accepted bytes have no two different messages with one id: nor have their known places
-pub no-collision : {H : List ℕ → Id} {A B M : List (List ℕ)} {t u : Table} {ks js : List ℕ} → Within A M → Within B M → NoCollision H M
-    → ((p : ℕ) → p ∈ ks → Heard H A t p) → ((p : ℕ) → p ∈ js → Heard H B u p) → theorems.NoCollision t ks u js
-no-collision {H} {A} {B} {t = t} {u = u} inA inB free f g i j m k e = same (f i m) (g j k)
-  where
-    same : Heard H A t i → Heard H B u j → content t i ≡ content u j
-    same x y = x .contents ∙ ap contentIn (free (x .bytes) (y .bytes) (inA (x .bytes) (x .inside)) (inB (y .bytes) (y .inside)) (sym (x .id) ∙ e ∙ y .id)) ∙ sym (y .contents)
+-- ---- in two rounds whose messages are told apart by their ids, one id has one content: at all places, and so at the known ones
+abbrev pub everywhere : Round → List ℕ
+everywhere r = below (r .held)
+
+pub held-inside : (r : Round) (p : ℕ) → p ∈ everywhere r → p < length (tableOf r)
+held-inside r p m = omega (arith, below-out (r .held) m, table-size r)
+
+module _ {H : List ℕ → Id} {A W B X M : List (List ℕ)} {r s : Round} (reached₁ : Reached H A W r) (reached₂ : Reached H B X s)
+    (inM₁ : Within (A ++ W) M) (inM₂ : Within (B ++ X) M) (free : NoCollision H M) where
+  pub held-apart : theorems.NoCollision (tableOf r) (everywhere r) (tableOf s) (everywhere s)
+  held-apart i j m k e =
+      let x = reached₁ .kept .source i (held-inside r i m) in
+      let y = reached₂ .kept .source j (held-inside s j k) in
+      x .content
+      ∙ ap contentIn (free (x .bytes) (y .bytes) (inM₁ (x .bytes) (source-inside x)) (inM₂ (y .bytes) (source-inside y)) (sym (x .id) ∙ e ∙ y .id))
+      ∙ sym (y .content)
+
+  pub known-apart : theorems.NoCollision (tableOf r) (knownPlaces r) (tableOf s) (knownPlaces s)
+  known-apart i j m k e = held-apart i j (filter-out (isKnown r) (everywhere r) m .0) (filter-out (isKnown s) (everywhere s) k .0) e
 
 -- ---- from an opening, over a whole list
 module _ (laws : CallLaws) {H : List ℕ → Id} (rule : IdRule H) {file : List ℕ} {house bay own : ℕ} {r : Round} (starts : Starts file house bay own r) (l : List Call) where
@@ -99,4 +108,4 @@ reachedFits laws H rule file house bay own r starts l = reached-last laws rule s
 
 pub knownBeneath : CallLaws → KnownBeneath
 knownBeneath laws H rule file house bay own r starts l free p q m h =
-    reach-accepted (tableOf (lastRound H r l)) (knownPlaces (lastRound H r l)) (accepted-places (reached-last laws rule starts l .0) free) p q m h
+    reach-inside (tableOf (lastRound H r l)) (knownPlaces (lastRound H r l)) (accepted-places (reached-last laws rule starts l .0) free .chains) p q m h

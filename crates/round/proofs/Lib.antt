@@ -63,8 +63,12 @@ pub mod Validity
 pub mod Equivocation
 -- Every report of a list is a report over messages known at its end
 pub mod Reporting
+-- What two lists accepted and wrote, in all
+pub mod TwoLists
 -- Demand 3: agreement over two lists
 pub mod Agreement
+-- Every held message is chained, so both texts catch the same acceptors, and in two boxes, too
+pub mod November
 -- The demands over lists of calls, with nothing left open
 pub mod Demands
 -- SHA-256 is an id rule

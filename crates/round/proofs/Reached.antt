@@ -1,7 +1,7 @@
 -- Rounds reached by calls: what holds of each of them, and how a round grows.
 use mathlib.Core.Path.{_≡_, refl, sym, ap, subst, _∙_}
 use mathlib.Core.Logic.{_⊎_, inl, inr}
-use mathlib.Core.Bool.{Bool, true}
+use mathlib.Core.Bool.{Bool, true, not}
 use mathlib.Core.Option.{none}
 use mathlib.Core.List.{List, [], _∷_, _++_, append-assoc, append-nil}
 use Prim.Native.Nat.{ℕ, _+_, _<_}
@@ -122,7 +122,8 @@ module _ (H : List ℕ → Id) (A W : List (List ℕ)) where
           (kept-returned kept (isKnown s) (e .place) (λ q l. e .known q (omega (arith, table-size r)))
           (returns-enter kept (e .place) l b inA i h (rec .id) (rec .content) canonical checks))
       step (inr (_, e)) = subst (λ (t : Table). Kept H A W t (isKnown s)) (sym (e .table))
-          (kept-snoc kept h source earlier canonical (isKnown s) (λ q l. e .old q (omega (arith, table-size r))) (λ x. (b, inA, rec .id)) (λ x. checks))
+          (kept-snoc kept h source earlier canonical (isKnown s) (λ q l. e .old q (omega (arith, table-size r))) (λ x. (b, inA, rec .id))
+          (λ x. absurd (subst (λ (c : Bool). T (not c)) (ap (isKnown s) (table-size r) ∙ e .new) x)) (λ x. checks))
 
   answers-keep : (s t : Round) (o : Outcome) (z : List ℕ) → (Sends H s t o z → z ∈ W) → Silent s t o z ⊎ Sends H s t o z
       → Kept H A W (tableOf s) (isKnown s) → Kept H A W (tableOf t) (isKnown t)
@@ -130,7 +131,7 @@ module _ (H : List ℕ → Id) (A W : List (List ℕ)) where
       subst (λ (u : Table). Kept H A W u (isKnown t)) (sym (e .table)) (kept-same kept (isKnown t) (λ q l. e .known q (omega (arith, table-size s))))
   answers-keep s t o z inW (inr e) kept = subst (λ (u : Table). Kept H A W u (isKnown t)) (sym (e .appends .table))
       (kept-snoc kept h source (λ j m. omega (arith, rec .earlier j m, table-size s)) (λ j m. canonical-law s j (rec .earlier j m) (rec .canonical j m))
-      (isKnown t) (λ q l. e .appends .old q (omega (arith, table-size s))) (λ x. absurd (unknown x)) (λ x. absurd (unknown x)))
+      (isKnown t) (λ q l. e .appends .old q (omega (arith, table-size s))) (λ x. absurd (unknown x)) (λ x. (z, inW e, rec .id)) (λ x. absurd (unknown x)))
     where
       h : Held
       h = e .record′

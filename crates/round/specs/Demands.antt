@@ -21,8 +21,9 @@ use Rattle.message.specs.declared.Proposal.{Proposal}
 use Rattle.message.specs.declared.AcceptorMessage.{AcceptorMessage}
 use Rattle.message.specs.declared.Reading.the-variants.{OfProposer, OfAcceptor}
 use Rattle.protocol.specs.Ids.{Id}
-use Rattle.protocol.specs.Message.{Message, isProposal, tran}
-use Rattle.protocol.specs.Table.{reach}
+use Rattle.protocol.specs.Message.{Message, isProposal, tran, caught}
+use Rattle.protocol.specs.November.{caughtNovember}
+use Rattle.protocol.specs.Table.{tree, reach}
 use Rattle.round.specs.Round.{Round}
 use Rattle.round.specs.declared.Opening.the-variants.{Opened}
 use Rattle.round.specs.declared.Outcome.the-variants as outcome
@@ -177,11 +178,11 @@ ValidityOverLists = (H : List ℕ → Id) → IdRule H → (file : List ℕ) (ho
     → (l : List Call) (a x : ℕ) → Decided x ∈ reports a (run H r l)
     → (m : List ℕ) × (m ∈ accepted (run H r l)) × ((f : Proposal) × (reading m ≡ OfProposer f) × (f .ballot ≡ x))
 
--- a written message that names a previous one refers to it, as row 12 asks of a message that arrives
+-- a written message is the own acceptor's, and one that names a previous message refers to it, as row 12 asks of a message that arrives
 abbrev pub ReplyIsChained : Type 0
 ReplyIsChained = (H : List ℕ → Id) → IdRule H → (file : List ℕ) (house bay own : ℕ) (r : Round) → Starts file house bay own r
     → (l : List Call) (z : List ℕ) → z ∈ written (run H r l)
-    → (f : AcceptorMessage) × (reading z ≡ OfAcceptor f) × ((i : Id) → previousId z f ≡ some i → i ∈ referenceIds z f)
+    → (f : AcceptorMessage) × (reading z ≡ OfAcceptor f) × (f .signer ≡ own) × ((i : Id) → previousId z f ≡ some i → i ∈ referenceIds z f)
 
 -- "m joins recent unless it is a proposal": no proposal is ever in recent
 abbrev pub RecentHoldsVotes : Type 0
@@ -292,3 +293,23 @@ pub record NoneInTwo (r : Round) : Type 0 where
 
 abbrev pub NoneInLastAndPrevious : Type 0
 NoneInLastAndPrevious = (r : Round) → T (fits r) → NoneInTwo r
+
+-- ---- NEIGHBOURS ON THE NOVEMBER TEXT (protocol/specs/November)
+-- at every place, known or awaiting its return, and for every acceptor number, both texts give one answer
+abbrev pub SameCaughtIn : Round → Type 0
+SameCaughtIn r = (p a : ℕ) → p < r .held → caughtNovember (tree (tableOf r) p) a ≡ caught (tree (tableOf r) p) a
+
+-- "for every message of every round reached from an opening, taken over acceptor messages, with no two different messages of one id, both texts catch
+-- the same acceptors"
+abbrev pub SameCaughtOverLists : Type 0
+SameCaughtOverLists = (H : List ℕ → Id) → IdRule H → (file : List ℕ) (house bay own : ℕ) (r : Round) → Starts file house bay own r
+    → (l : List Call) → NoCollision H (accepted (run H r l) ++ written (run H r l)) → SameCaughtIn (lastRound H r l)
+
+-- "Growers on mixed sites may then rely on one list of caught controllers": two boxes follow one house and bay, one of them by the November text, and
+-- both hold a message with one id, at place p and at place q. It tells both of the same acceptors.
+abbrev pub OneCaughtList : Type 0
+OneCaughtList = (H : List ℕ → Id) → IdRule H → (file : List ℕ) (house bay ownA ownB : ℕ) (rA rB : Round) → Starts file house bay ownA rA → Starts file house bay ownB rB
+    → (lA lB : List Call)
+    → NoCollision H ((accepted (run H rA lA) ++ accepted (run H rB lB)) ++ (written (run H rA lA) ++ written (run H rB lB)))
+    → (p q : ℕ) → p < lastRound H rA lA .held → q < lastRound H rB lB .held → idAt (lastRound H rA lA) p ≡ idAt (lastRound H rB lB) q
+    → (a : ℕ) → caughtNovember (tree (tableOf (lastRound H rA lA)) p) a ≡ caught (tree (tableOf (lastRound H rB lB)) q) a

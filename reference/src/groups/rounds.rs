@@ -5,6 +5,7 @@ mod agreement;
 mod forgery;
 mod judged;
 mod liar;
+mod neighbours;
 mod places;
 mod samples;
 mod seat;
@@ -15,6 +16,7 @@ mod watched;
 use crate::tally::Tally;
 use crate::Settings;
 use agreement::Met;
+use neighbours::Neighbours;
 use reference::refusal::STRUCK;
 use watched::{Counts, Referee};
 
@@ -45,11 +47,19 @@ pub fn run(settings: &Settings) -> Tally {
         "rounds",
         &format!("each number of 128 to 255 as a place of a round handed in{ALONE}"),
     );
+    samples.tally.add(&places.tally);
+    samples.tally.add(&run_sites(settings));
+    samples.tally
+}
+
+/// Random sites, until enough rounds ran on them.
+fn run_sites(settings: &Settings) -> Tally {
     let mut referee = Referee::new(settings.random(6));
     let mut met = Met::default();
+    let mut neighbours = Neighbours::default();
     let mut sites = 0;
     while referee.rounds < ROUNDS * settings.scale {
-        traffic::run_site(&mut referee, &mut met);
+        traffic::run_site(&mut referee, &mut met, &mut neighbours);
         for _ in 0..OPENINGS {
             traffic::run_opening(&mut referee);
         }
@@ -70,9 +80,26 @@ pub fn run(settings: &Settings) -> Tally {
     if cfg!(feature = "rounds") {
         println!("rounds: {}", trail.told());
     }
-    samples.tally.add(&places.tally);
-    samples.tally.add(&tally);
-    samples.tally
+    tell_neighbours(&mut neighbours);
+    tally.add(&neighbours.tally);
+    tally
+}
+
+/// Says whom both texts caught, and checks that they caught enough.
+fn tell_neighbours(neighbours: &mut Neighbours) {
+    let Neighbours { tally, rounds, awaiting, shared, forking, acceptors, caught } = neighbours;
+    for (what, count) in [
+        ("a message awaiting its return", *awaiting),
+        ("a message held in another round", *shared),
+        ("an acceptor caught", *acceptors),
+    ] {
+        tally.check(count >= LEAST, || format!("neighbours: {what} {count} times, not {LEAST}"));
+    }
+    println!("rounds: the texts of 19 November and 4 December: {acceptors} acceptors caught in {forking} rounds of {rounds}, {caught} times over all messages");
+    let told = format!(
+        "both texts on each message, {awaiting} awaiting return and {shared} held in an earlier round of the site{ALONE}"
+    );
+    tally.line("rounds", &told);
 }
 
 /// Says what the calls on some rounds met, and checks that they met enough.

@@ -5,6 +5,7 @@ use super::agreement::{self, Met};
 use super::forgery::forge;
 use super::judged::Answer;
 use super::liar::Liar;
+use super::neighbours::Neighbours;
 use super::seat::Seat;
 use super::tampered;
 use super::watched::{Referee, Watched};
@@ -402,7 +403,7 @@ fn repeats_a_vote(round: &Round) -> bool {
 }
 
 /// Runs one site and checks what was seen there.
-pub fn run_site(referee: &mut Referee, met: &mut Met) {
+pub fn run_site(referee: &mut Referee, met: &mut Met, neighbours: &mut Neighbours) {
     let mut site = Site::open(referee);
     for _ in 0..referee.random.between(1, 3) {
         site.propose(&mut referee.random);
@@ -430,6 +431,7 @@ pub fn run_site(referee: &mut Referee, met: &mut Met) {
         }
     }
     agreement::check(referee, met, &site.graph, &site.seats);
+    neighbours.check(site.seats.iter().map(Seat::round));
 }
 
 /// An opening from a random file, most of which are turned down.
