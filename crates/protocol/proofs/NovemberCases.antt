@@ -43,13 +43,19 @@ both-catch = (
   sym (same-caught-at parted (below 6) (accepted-of-test parted (below 6) parted-accepted .chains) (free-of-test parted (below 6) parted (below 6) parted-free) 5 (below-in 6 (omega arith)) 0),
 )
 
--- ---- not chained: the second message of acceptor 0 names a previous one that is not among its references. Neither is on the other's chain, and their
--- previous ids differ. All else holds of the four places; and place 3 is chained, so it is needed, too, that with a message its Tran is in the set.
+-- ---- not chained: the second message of acceptor 0, place 3, names one of acceptor 1 as its previous. So neither message of acceptor 0 is on the
+-- other's chain, and their previous ids differ. All else holds of the five places; and place 4 is itself chained, so it is needed, too, that with a
+-- message its Tran is in the set.
 abbrev unchained : Table
-unchained = offers (0 ∷ []) 9 5 ∷ says (1 ∷ []) 0 none (0 ∷ []) ∷ says (2 ∷ []) 0 (some (9 ∷ [])) (0 ∷ []) ∷ says (3 ∷ []) 1 none (1 ∷ 2 ∷ []) ∷ []
+unchained = offers (0 ∷ []) 9 5
+    ∷ says (1 ∷ []) 0 none (0 ∷ [])
+    ∷ says (2 ∷ []) 1 none (0 ∷ [])
+    ∷ says (3 ∷ []) 0 (some (2 ∷ [])) (2 ∷ [])
+    ∷ says (4 ∷ []) 1 (some (2 ∷ [])) (1 ∷ 2 ∷ 3 ∷ [])
+    ∷ []
 
-pub unchained-differs : T (orderedTest unchained && freeTest unchained (below 4) unchained (below 4) && chained (tree unchained 3) && not (chained (tree unchained 2)))
-    × (caughtNovember (tree unchained 3) 0 ≡ true) × (caught (tree unchained 3) 0 ≡ false)
+pub unchained-differs : T (orderedTest unchained && freeTest unchained (below 5) unchained (below 5) && chained (tree unchained 4) && not (chained (tree unchained 3)))
+    × (caughtNovember (tree unchained 4) 0 ≡ true) × (caught (tree unchained 4) 0 ≡ false)
 unfolding any all filter below sameId samePrevious listed idOf signer previous references isProposal signers tran forks caughtIn caught isPrevious linked chained at heldId places gather nodeBy treeIn tree idsAt contentOf prevTran inPrevTran unconnected caughtNovember orderedTest sameIds sameContent freeTest
 unchained-differs = (tt, refl, refl)
 
