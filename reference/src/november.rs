@@ -1,5 +1,9 @@
 //! Source document 000, the text of 19 November 2024: which acceptors are caught
 //! in a message. Nothing here leans on what meaning.rs works out.
+//!
+//! A message is told by its place, not by its id: short of a collision no id is
+//! held twice in a round that an opening leads to. So this is not for rounds that
+//! are handed in.
 
 use crate::meaning::{Content, Held, Place};
 use crate::round::CAPACITY;
@@ -9,7 +13,7 @@ use std::collections::BTreeSet;
 /// A set of places: bit p is place p.
 type Places = u128;
 
-const _: () = assert!(CAPACITY == Places::BITS as usize);
+const _: () = assert!(CAPACITY <= Places::BITS as usize);
 
 fn has(set: Places, place: Place) -> bool {
     set >> place & 1 == 1
@@ -86,8 +90,8 @@ mod tests {
     }
 
     fn held(messages: Vec<(u8, Content)>) -> Vec<Held> {
-        let place = |(place, (signer, content))| Held { id: id(place), signer, content };
-        (0..).zip(messages).map(place).collect()
+        let hold = |(place, (signer, content))| Held { id: id(place), signer, content };
+        (0..).zip(messages).map(hold).collect()
     }
 
     fn proposal(signer: u8) -> (u8, Content) {

@@ -5,12 +5,12 @@ use mathlib.Core.Bool.{not}
 use mathlib.Core.List.{List}
 use Prim.Native.Nat.{ℕ}
 use lib.Dec.{T, eqb, eqb→eq, T-not, not-T}
-use Rattle.base.specs.Tests.{_∈_, any}
-use Rattle.base.proofs.Tests.{and-l, and-r, and-in, eq→eqb, any-in, any-out}
+use Rattle.base.specs.Tests.{_∈_}
+use Rattle.base.proofs.Tests.{and-l, and-r, and-in, eq→eqb}
 use Rattle.protocol.specs.Ids.{sameId, samePrevious}
 use Rattle.protocol.specs.Message.{Message, idOf, signer, previous, isAcceptor, tran, forks, caughtIn, caught}
 use Rattle.protocol.proofs.Ids.{sameId-law, samePrevious-law}
-use Rattle.protocol.proofs.Message.{chosen-law}
+use Rattle.protocol.proofs.Message.{pairs-law}
 
 abbrev pub Forks : Message → Message → Type 0
 Forks x y = T (isAcceptor x) × T (isAcceptor y) × (signer x ≡ signer y) × (idOf x ≢ idOf y) × (previous x ≡ previous y)
@@ -40,16 +40,10 @@ CaughtIn l p = (x : Message) × (y : Message) × (x ∈ l) × (y ∈ l) × Forks
 
 pub caughtIn-law : (l : List Message) (p : ℕ) → T (caughtIn l p) ↔ CaughtIn l p
 unfolding caughtIn
-caughtIn-law l p = (to, from)
-  where
-    to : T (caughtIn l p) → CaughtIn l p
-    to h =
-        let (x, i, c, e) = chosen-law (λ x. any (forks x) l) l p .0 h in
-        let (y, j, d) = any-out (forks x) l c in
-        (x, y, i, j, forks-law x y .0 d, e)
-
-    from : CaughtIn l p → T (caughtIn l p)
-    from (x, y, i, j, f, e) = chosen-law (λ x. any (forks x) l) l p .1 (x, i, any-in (forks x) j (forks-law x y .1 f), e)
+caughtIn-law l p = (
+  λ h. let (x, y, i, j, c, e) = pairs-law forks l p .0 h in (x, y, i, j, forks-law x y .0 c, e),
+  λ (x, y, i, j, f, e). pairs-law forks l p .1 (x, y, i, j, forks-law x y .1 f, e),
+)
 
 -- p is in Caught(m)
 pub caught-law : (m : Message) (p : ℕ) → T (caught m p) ↔ CaughtIn (tran m) p

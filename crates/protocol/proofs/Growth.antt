@@ -21,6 +21,17 @@ pub at-end : (t : Table) (r : Held) → at (t ++ r ∷ []) (length t) ≡ r
 unfolding at
 at-end t r = getD-at t r [] (offers [] 0 0) (length t) refl
 
+-- what a record says stays, as long as it refers to places of the table
+ids-append : (t u : Table) (r : List ℕ) → ((j : ℕ) → j ∈ r → j < length t) → idsAt (t ++ u) r ≡ idsAt t r
+unfolding idsAt
+ids-append t u [] h = refl
+ids-append t u (k ∷ r) h = λ e. heldId (at-append t u k (h k (List·Memᴰ·head refl)) e) ∷ ids-append t u r (λ i m. h i (List·Memᴰ·tail m)) e
+
+pub contentOf-append : (t u : Table) (r : Held) → ((j : ℕ) → j ∈ places r → j < length t) → contentOf (t ++ u) r ≡ contentOf t r
+unfolding contentOf places
+contentOf-append t u (offers i s b) h = refl
+contentOf-append t u (says i s p r) h = ap (joint s p) (ids-append t u r h)
+
 module _ (t u : Table) (ord : Ordered t) where
   treeIn-append : (k i : ℕ) → i < length t → treeIn (t ++ u) k i ≡ treeIn t k i
   unfolding treeIn
@@ -49,19 +60,9 @@ module _ (t u : Table) (ord : Ordered t) where
   unfolding reach
   reach-append i j h = reachIn-append (suc i) i j h
 
-  -- ids and contents
-  ids-append : (r : List ℕ) → ((j : ℕ) → j ∈ r → j < length t) → idsAt (t ++ u) r ≡ idsAt t r
-  unfolding idsAt
-  ids-append [] h = refl
-  ids-append (k ∷ r) h = λ e. heldId (at-append t u k (h k (List·Memᴰ·head refl)) e) ∷ ids-append r (λ i m. h i (List·Memᴰ·tail m)) e
-
-  contentOf-append : (r : Held) → ((j : ℕ) → j ∈ places r → j < length t) → contentOf (t ++ u) r ≡ contentOf t r
-  unfolding contentOf places
-  contentOf-append (offers i s b) h = refl
-  contentOf-append (says i s p r) h = ap (joint s p) (ids-append r h)
-
+  -- contents
   pub content-append : (i : ℕ) → i < length t → content (t ++ u) i ≡ content t i
-  content-append i h = ap (contentOf (t ++ u)) (at-append t u i h) ∙ contentOf-append (at t i) (λ j m. omega (arith, ord i j m))
+  content-append i h = ap (contentOf (t ++ u)) (at-append t u i h) ∙ contentOf-append t u (at t i) (λ j m. omega (arith, ord i j m))
 
 -- a record whose references are places of the table keeps it ordered
 pub ordered-snoc : (t : Table) (r : Held) → Ordered t → ((j : ℕ) → j ∈ places r → j < length t) → Ordered (t ++ r ∷ [])

@@ -16,7 +16,9 @@ pub mod WellFormed
 pub mod Decides
 -- The report by what it says: undecided, decided, split
 pub mod Report
--- The acceptor messages of an honest acceptor are in a line
+-- PrevTran of the November text, as a chain that can be followed down
+pub mod PrevTran
+-- Where two chains part, their signer is caught; the acceptor messages of an honest acceptor are in a line
 pub mod Chain
 -- Theorem 22, on trees
 pub mod Agreement
@@ -36,7 +38,7 @@ pub mod Loops
 pub mod Places
 -- The definitions at a place: Buried, fresh, lrns, decisions and the report
 pub mod PlacesLearners
--- A table that is written out meets the premises of agreement by tests
+-- A table that is written out meets the premises of agreement, and of the theorem on the November text, by tests
 pub mod TableTests
 -- A run that meets every premise of agreement
 pub mod Run
@@ -44,9 +46,7 @@ pub mod Run
 pub mod ForkedRun
 -- The misreadings that document 01 shuts out, each with a case in which it would answer otherwise
 pub mod Misreadings
--- PrevTran of the November text, as a chain that can be followed down
-pub mod PrevTran
 -- Both texts catch the same acceptors
 pub mod November
--- A case of that, and one for each premise in which the texts differ without it
+-- A case of that; for each premise one in which the texts differ without it; and why it is taken over acceptor messages
 pub mod NovemberCases

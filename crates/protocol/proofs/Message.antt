@@ -1,7 +1,7 @@
--- Laws of messages: 1b and 2a, what Tran holds, that a message's ballot is the largest in its Tran, and Caught in words.
+-- Laws of messages: 1b and 2a, signers, and what Tran holds.
 use mathlib.Core.Path.{_≡_, refl, subst}
 use mathlib.Core.Logic.{_⊎_, inl, inr, _↔_}
-use mathlib.Core.Bool.{not, _&&_}
+use mathlib.Core.Bool.{Bool, not, _&&_}
 use mathlib.Core.List.{List, [], _∷_, _++_, List·Memᴰ·head, List·Memᴰ·tail, List·Memᴰ·cases-cons, Memᴰ·append-left, Memᴰ·append-right, List·Memᴰ·append-cases, Memᴰ·cast}
 use Prim.Native.Nat.{ℕ}
 use lib.Dec.{T, eqb, eqb→eq, T-not, not-T}
@@ -43,6 +43,17 @@ pub chosen-law : (f : Message → _) (l : List Message) (p : ℕ) → T (signers
 chosen-law f l p = (
   λ h. let (m, k, e) = signers-law (filter f l) p .0 h in let (i, j) = filter-out f l k in (m, i, j, e),
   λ (m, k, t, e). signers-law (filter f l) p .1 (m, filter-in f k t, e),
+)
+
+-- the signers of those that have a partner in l: both texts catch by pairs
+pub pairs-law : (R : Message → Message → Bool) (l : List Message) (p : ℕ)
+    → T (signers (filter (λ x. any (R x) l) l) p) ↔ ((x y : Message) × (x ∈ l) × (y ∈ l) × T (R x y) × (signer x ≡ p))
+pairs-law R l p = (
+  λ h.
+      let (x, i, c, e) = chosen-law (λ x. any (R x) l) l p .0 h in
+      let (y, j, d) = any-out (R x) l c in
+      (x, y, i, j, d, e),
+  λ (x, y, i, j, d, e). chosen-law (λ x. any (R x) l) l p .1 (x, i, any-in (R x) j d, e),
 )
 
 -- ---- definition 7: Tran holds the message itself, and what its references lead to

@@ -1,5 +1,6 @@
--- Both texts in single cases, computed: one that meets every premise, and, for each premise, one that meets the others and in which the texts differ.
--- Acceptor 0 is the one to be caught, and the last message, of acceptor 1, the one in which it is.
+-- Both texts in single cases, computed: one that meets every premise on a set of messages; for each of these premises one that meets the others and in
+-- which the texts differ; and one for "taken over acceptor messages". Acceptor 0 is the one to be caught, and the last message, of acceptor 1, the one
+-- in which it is.
 use mathlib.Core.Path.{_≡_, refl, sym}
 use mathlib.Core.Bool.{true, false, not, _&&_}
 use mathlib.Core.Option.{none, some}
@@ -44,8 +45,8 @@ both-catch = (
 )
 
 -- ---- not chained: the second message of acceptor 0, place 3, names one of acceptor 1 as its previous. So neither message of acceptor 0 is on the
--- other's chain, and their previous ids differ. All else holds of the five places; and place 4 is itself chained, so it is needed, too, that with a
--- message its Tran is in the set.
+-- other's chain, and their previous ids differ. All else holds of the five places. Of the others alone everything holds but that with a message its Tran
+-- is in the set, so that is needed, too.
 abbrev unchained : Table
 unchained = offers (0 ∷ []) 9 5
     ∷ says (1 ∷ []) 0 none (0 ∷ [])
@@ -54,13 +55,13 @@ unchained = offers (0 ∷ []) 9 5
     ∷ says (4 ∷ []) 1 (some (2 ∷ [])) (1 ∷ 2 ∷ 3 ∷ [])
     ∷ []
 
-pub unchained-differs : T (orderedTest unchained && freeTest unchained (below 5) unchained (below 5) && chained (tree unchained 4) && not (chained (tree unchained 3)))
+pub unchained-differs : T (orderedTest unchained && freeTest unchained (below 5) unchained (below 5) && all (acceptedAt unchained (below 5)) (0 ∷ 1 ∷ 2 ∷ 4 ∷ []) && not (chained (tree unchained 3)))
     × (caughtNovember (tree unchained 4) 0 ≡ true) × (caught (tree unchained 4) 0 ≡ false)
-unfolding any all filter below sameId samePrevious listed idOf signer previous references isProposal signers tran forks caughtIn caught isPrevious linked chained at heldId places gather nodeBy treeIn tree idsAt contentOf prevTran inPrevTran unconnected caughtNovember orderedTest sameIds sameContent freeTest
+unfolding any all filter below sameId samePrevious listed idOf signer previous references isProposal proposed is1b signers tran largest ballot forks caughtIn caught isPrevious linked chained alone formed1b at heldId places gather nodeBy treeIn tree idsAt contentOf prevTran inPrevTran unconnected caughtNovember orderedTest acceptedAt sameIds sameContent freeTest
 unchained-differs = (tt, refl, refl)
 
--- ---- colliding ids: places 3 and 4 name the same previous message, and the id of place 3 is also that of place 1, which is on the chain of both. All
--- six places pass what accepted messages must.
+-- ---- colliding ids: places 3 and 4 name the same previous message, and the id of place 3 is also that of place 1, which is on the chain of both. The
+-- six places have all that is asked of accepted ones.
 abbrev colliding : Table
 colliding = offers (0 ∷ []) 9 5
     ∷ says (2 ∷ []) 0 none (0 ∷ [])
@@ -74,11 +75,11 @@ pub colliding-differs : T (acceptedTest colliding (below 6)) × (caughtNovember 
 unfolding any all filter below sameId samePrevious listed idOf signer previous references isProposal proposed is1b signers tran largest ballot forks caughtIn caught isPrevious linked chained alone formed1b at places gather nodeBy treeIn tree prevTran inPrevTran unconnected caughtNovember orderedTest acceptedAt acceptedTest
 colliding-differs = (tt, refl, refl)
 
--- ---- "taken over acceptor messages": over all messages, two proposals of proposer 0 would catch the acceptor of that number
+-- ---- "taken over acceptor messages": over all messages, the November text would catch acceptor 0 by two proposals of proposer 0
 abbrev proposals : Table
 proposals = offers (0 ∷ []) 0 5 ∷ offers (1 ∷ []) 0 6 ∷ says (2 ∷ []) 1 none (0 ∷ 1 ∷ []) ∷ []
 
-pub proposals-differ : T (any (λ m. any (λ n. eqb (signer m) 0 && eqb (signer n) 0 && not (inPrevTran m n) && not (inPrevTran n m)) (tran (tree proposals 2))) (tran (tree proposals 2)))
+pub proposals-would-catch : T (any (λ m. any (λ n. eqb (signer m) 0 && eqb (signer n) 0 && not (inPrevTran m n) && not (inPrevTran n m)) (tran (tree proposals 2))) (tran (tree proposals 2)))
     × (caughtNovember (tree proposals 2) 0 ≡ false) × (caught (tree proposals 2) 0 ≡ false)
 unfolding any filter sameId samePrevious idOf signer previous isProposal signers tran forks caughtIn caught at gather nodeBy treeIn tree prevTran inPrevTran unconnected caughtNovember
-proposals-differ = (tt, refl, refl)
+proposals-would-catch = (tt, refl, refl)

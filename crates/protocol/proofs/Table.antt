@@ -10,7 +10,7 @@ use lib.ListN.{length, List·getD-eq-default}
 use lib.Dec.{T, eqb, eqb→eq, eqb-refl}
 use Rattle.base.specs.Tests.{_∈_, any}
 use Rattle.base.proofs.Tests.{any-cong, any-in, any-out, or-l, or-r, or-out}
-use Rattle.protocol.specs.Message.{Message, acceptor, cons, idOf, signer, previous, isProposal, tran, trans}
+use Rattle.protocol.specs.Message.{Message, acceptor, cons, listed, idOf, signer, previous, references, isProposal, tran, trans}
 use Rattle.protocol.specs.Table.{Held, offers, says, Table, at, heldId, heldSigner, heldPrevious, offered, places, Ordered, gather, nodeBy, treeIn, tree, reachBy, reachIn, reach}
 use Rattle.protocol.proofs.Message.{tran-self}
 
@@ -47,12 +47,12 @@ tree-is t ord i = node-cong (treeIn t i) (tree t) (at t i) (λ j m. tree-stable 
 
 -- ---- its fields are those of the record
 module _ (f : ℕ → Message) where
-  node-id : (r : Held) → idOf (nodeBy f r) ≡ heldId r
+  pub node-id : (r : Held) → idOf (nodeBy f r) ≡ heldId r
   unfolding nodeBy idOf heldId
   node-id (offers i s b) = refl
   node-id (says i s p r) = refl
 
-  node-signer : (r : Held) → signer (nodeBy f r) ≡ heldSigner r
+  pub node-signer : (r : Held) → signer (nodeBy f r) ≡ heldSigner r
   unfolding nodeBy signer heldSigner
   node-signer (offers i s b) = refl
   node-signer (says i s p r) = refl
@@ -62,10 +62,21 @@ module _ (f : ℕ → Message) where
   node-previous (offers i s b) = refl
   node-previous (says i s p r) = refl
 
-  node-proposal : (r : Held) → isProposal (nodeBy f r) ≡ offered r
+  pub node-proposal : (r : Held) → isProposal (nodeBy f r) ≡ offered r
   unfolding nodeBy isProposal offered
   node-proposal (offers i s b) = refl
   node-proposal (says i s p r) = refl
+
+  -- what a record refers to is a reference of its message
+  pub gather-in : {k : ℕ} {l : List ℕ} → k ∈ l → f k ∈ listed (gather f l)
+  unfolding gather listed
+  gather-in (List·Memᴰ·head e) = List·Memᴰ·head (ap f e)
+  gather-in (List·Memᴰ·tail m) = List·Memᴰ·tail (gather-in m)
+
+  pub node-refers : (r : Held) {k : ℕ} → k ∈ places r → f k ∈ references (nodeBy f r)
+  unfolding nodeBy references places
+  node-refers (offers i s b) m = elim m [ ]
+  node-refers (says i s p r) m = gather-in m
 
 module _ (t : Table) (i : ℕ) where
   pub tree-id : idOf (tree t i) ≡ heldId (at t i)

@@ -1,4 +1,4 @@
--- A table that is written out meets the premises of agreement by computed tests.
+-- A table that is written out meets the premises of agreement, and of the theorem on the November text, by computed tests.
 use mathlib.Core.Path.{_≡_, refl, subst}
 use mathlib.Core.Logic.{_⊎_, inl, inr}
 use mathlib.Core.Bool.{Bool, true, false, not, _&&_, _||_}
@@ -30,9 +30,9 @@ ordered-of-test t h i j m = step (dec-T (ltb i (length t)))
     step (inl c) = ltb→lt j i (all-out (λ j. ltb j i) m (all-out _ (below-in (length t) (ltb→lt i (length t) c)) h))
     step (inr c) = absurd (nowhere (at t i) (at-past t i (nltb→le i (length t) c)) m)
 
--- ---- the places ks are inside, closed, chained and well-formed
+-- ---- the places ks are closed, chained and well-formed
 unfoldable pub acceptedAt : Table → List ℕ → ℕ → Bool
-acceptedAt t ks i = ltb i (length t) && all (λ j. any (λ k. eqb j k) ks) (places (at t i)) && chained (tree t i) && formed1b (tree t i)
+acceptedAt t ks i = all (λ j. any (λ k. eqb j k) ks) (places (at t i)) && chained (tree t i) && formed1b (tree t i)
 
 unfoldable pub acceptedTest : Table → List ℕ → Bool
 acceptedTest t ks = orderedTest t && all (acceptedAt t ks) ks
@@ -42,14 +42,13 @@ unfolding acceptedTest acceptedAt
 accepted-of-test t ks h = record {
   chains = record {
     ordered = ordered-of-test t (and-l (orderedTest t) (all (acceptedAt t ks) ks) h);
-    inside = λ i m. let c = one i m in ltb→lt i (length t) (search (and-l, and-r));
     closed = λ i j m k. let c = one i m in listed j (all-out (λ j. any (λ k. eqb j k) ks) k (search (and-l, and-r)));
     links = λ i m. let c = one i m in search (and-l, and-r);
   };
   forms = λ i m. let c = one i m in search (and-l, and-r);
 }
   where
-    one : (i : ℕ) → i ∈ ks → T (ltb i (length t) && all (λ j. any (λ k. eqb j k) ks) (places (at t i)) && chained (tree t i) && formed1b (tree t i))
+    one : (i : ℕ) → i ∈ ks → T (all (λ j. any (λ k. eqb j k) ks) (places (at t i)) && chained (tree t i) && formed1b (tree t i))
     one i m = all-out (acceptedAt t ks) m (and-r (orderedTest t) (all (acceptedAt t ks) ks) h)
 
     listed : (j : ℕ) → T (any (λ k. eqb j k) ks) → j ∈ ks

@@ -109,7 +109,7 @@ module _ (t u : Table) (ks js : List ℕ) (at₁ : ChainedAt t ks) (at₂ : Chai
     apart = λ x y h k e. one-id x y (out x h) (out y k) e;
   }
 
-  pub lawful-set : ((i : ℕ) → i ∈ ks → T (formed1b (tree t i))) → ((j : ℕ) → j ∈ js → T (formed1b (tree u j))) → Lawful (messages t ks ++ messages u js)
+  lawful-set : ((i : ℕ) → i ∈ ks → T (formed1b (tree t i))) → ((j : ℕ) → j ∈ js → T (formed1b (tree u j))) → Lawful (messages t ks ++ messages u js)
   lawful-set forms₁ forms₂ = record { chains = chained-set; forms = λ m h. each (λ m. T (formed1b m)) forms₁ forms₂ m (out m h) }
 
 pub lawful : (t u : Table) (ks js : List ℕ) → Accepted t ks → Accepted u js → NoCollision t ks t ks → NoCollision t ks u js → NoCollision u js u js

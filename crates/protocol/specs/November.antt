@@ -27,7 +27,7 @@ unfoldable pub inPrevTran : Message → Message → Bool
 inPrevTran m n = any (λ z. sameId (idOf z) (idOf m)) (prevTran n)
 
 -- ---- definition 12, Caught(x): the signers of those m in Tran(x) for which some m' in Tran(x) has the same signer, m ∉ PrevTran(m') and
--- m' ∉ PrevTran(m). It is "taken over acceptor messages" (document 02), as the report's is.
+-- m' ∉ PrevTran(m). It is "taken over acceptor messages" (document 02), as document 01 takes the report's.
 unfoldable pub unconnected : Message → Message → Bool
 unconnected m n = isAcceptor m && isAcceptor n && eqb (signer m) (signer n) && not (inPrevTran m n) && not (inPrevTran n m)
 

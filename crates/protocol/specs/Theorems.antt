@@ -5,7 +5,6 @@ use mathlib.Core.Logic.{_≢_}
 use mathlib.Core.Bool.{Bool, not}
 use mathlib.Core.List.{List, _++_}
 use Prim.Native.Nat.{ℕ, _<_}
-use lib.ListN.{length}
 use lib.Dec.{T}
 use Rattle.base.specs.Tests.{_∈_}
 use Rattle.base.specs.Sets.{has}
@@ -76,10 +75,9 @@ ReportsAgree = (G : LearnerGraph) → SoundGraph G → (M : List Message) → La
     → (a b : ℕ) → a < G .learners → b < G .learners → Entangled G M a b
     → (K J : List Message) → Within K M → Within J M → Agree (report G K a) (report G J b)
 
--- ---- between tables. The places ks of t, with a place those that it refers to, hold chained messages.
+-- ---- between tables. The places ks of t hold chained messages; with a place, ks has those that it refers to.
 pub record ChainedAt (t : Table) (ks : List ℕ) : Type 0 where
   pub ordered : Ordered t
-  pub inside : (i : ℕ) → i ∈ ks → i < length t
   pub closed : (i j : ℕ) → i ∈ ks → j ∈ places (at t i) → j ∈ ks
   pub links : (i : ℕ) → i ∈ ks → T (chained (tree t i))
 

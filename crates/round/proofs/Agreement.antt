@@ -22,7 +22,7 @@ use Rattle.round.specs.Held.{graphOf, tableOf, knownPlaces}
 use Rattle.round.specs.Lists.{Call, run, lastRound, accepted, written, reports}
 use Rattle.round.specs.Demands.{IdRule, Starts, SafeEdge, NoCollision, OneValue, AgreementOverLists}
 use Rattle.round.proofs.CallLaws.{CallLaws}
-use Rattle.round.proofs.TwoLists.{restricted, Both, first-list, second-list}
+use Rattle.round.proofs.TwoLists.{Both, first-list, second-list, first-free, second-free}
 use Rattle.round.proofs.Reached.{Reached}
 use Rattle.round.proofs.Known.{accepted-places, heard, known-apart, reached-last}
 use Rattle.round.proofs.Equivocation.{Read, heard-read, caught-equivocates}
@@ -46,10 +46,10 @@ module _ (laws : CallLaws) (H : List ℕ → Id) (rule : IdRule H) (file : List 
   WB = written (run H rB lB)
 
   freeA : NoCollision H (AA ++ WA)
-  freeA = restricted (first-list AA AB WA WB) free
+  freeA = first-free AA AB WA WB free
 
   freeB : NoCollision H (AB ++ WB)
-  freeB = restricted (second-list AA AB WA WB) free
+  freeB = second-free AA AB WA WB free
 
   -- the last rounds, and their known messages
   abbrev endA : Round

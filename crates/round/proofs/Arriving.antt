@@ -2,16 +2,17 @@
 use mathlib.Core.Path.{_≡_, refl, sym, ap, subst, _∙_}
 use mathlib.Core.Bool.{Bool, true, false, not, _&&_}
 use mathlib.Core.Option.{Option, none, some}
-use mathlib.Core.List.{List, [], _∷_, map, List·Memᴰ·head, List·Memᴰ·tail}
+use mathlib.Core.List.{List, [], _∷_, map}
 use Prim.Native.Nat.{ℕ, _<_}
 use lib.Dec.{T, eqb, eqb→eq}
 use Rattle.base.specs.Tests.{_∈_, any, all}
 use Rattle.base.proofs.Tests.{and-in, and-l, and-r, any-in, any-out, all-out, map-in, map-out, eq→eqb}
 use Rattle.protocol.specs.Ids.{Id, sameId}
-use Rattle.protocol.specs.Message.{Message, acceptor, listed, idOf, signer, previous, references, isProposal, isAcceptor}
+use Rattle.protocol.specs.Message.{Message, acceptor, idOf, signer, previous, references, isProposal, isAcceptor}
 use Rattle.protocol.specs.WellFormed.{isPrevious, linked, chained}
-use Rattle.protocol.specs.Table.{Held, offers, says, at, heldId, heldSigner, offered, gather, nodeBy, treeIn, tree}
+use Rattle.protocol.specs.Table.{says, at, gather, nodeBy, treeIn, tree}
 use Rattle.protocol.proofs.Ids.{sameId-law}
+use Rattle.protocol.proofs.Table.{node-id, node-signer, node-proposal, gather-in}
 use Rattle.round.specs.Round.{Round}
 use Rattle.round.specs.Held.{idAt, isKnown, isProposalAt, signerAt, tableOf, placeOf}
 use Rattle.round.specs.Rows.{placed, orZero, isKnownId, lacks, isVoteOf, unchained}
@@ -28,28 +29,6 @@ placed-out f (some p) h = (p, refl, h)
 pub not-not : (b : Bool) → T (not (not b)) → T b
 not-not true h = tt
 not-not false h = h
-
--- ---- the fields of the message of a place
-module _ (f : ℕ → Message) where
-  node-id : (h : Held) → idOf (nodeBy f h) ≡ heldId h
-  unfolding nodeBy idOf heldId
-  node-id (offers i s b) = refl
-  node-id (says i s p l) = refl
-
-  node-signer : (h : Held) → signer (nodeBy f h) ≡ heldSigner h
-  unfolding nodeBy signer heldSigner
-  node-signer (offers i s b) = refl
-  node-signer (says i s p l) = refl
-
-  node-offered : (h : Held) → isProposal (nodeBy f h) ≡ offered h
-  unfolding nodeBy isProposal offered
-  node-offered (offers i s b) = refl
-  node-offered (says i s p l) = refl
-
-  pub gather-in : {k : ℕ} {l : List ℕ} → k ∈ l → f k ∈ listed (gather f l)
-  unfolding gather listed
-  gather-in (List·Memᴰ·head e) = List·Memᴰ·head (ap f e)
-  gather-in (List·Memᴰ·tail m) = List·Memᴰ·tail (gather-in m)
 
 module _ (r : Round) where
   abbrev pub placesOf : List Id → List ℕ
@@ -102,7 +81,7 @@ module _ (r : Round) where
   unfolding isPrevious tree treeIn
   is-previous m i p l e v =
       let u = nodeBy (treeIn (tableOf r) p) (at (tableOf r) p) in
-      let a : not (isProposal u) ≡ not (isProposalAt r p) = ap not (node-offered (treeIn (tableOf r) p) (at (tableOf r) p) ∙ table-offered r p l) in
+      let a : not (isProposal u) ≡ not (isProposalAt r p) = ap not (node-proposal (treeIn (tableOf r) p) (at (tableOf r) p) ∙ table-offered r p l) in
       let b : idOf u ≡ i = node-id (treeIn (tableOf r) p) (at (tableOf r) p) ∙ table-id r p l ∙ e in
       let c : signer u ≡ signerAt r p = node-signer (treeIn (tableOf r) p) (at (tableOf r) p) ∙ table-signer r p l in
       let d : signerAt r p ≡ signer m = eqb→eq (signerAt r p) (signer m) (and-r (not (isProposalAt r p)) (eqb (signerAt r p) (signer m)) v) in

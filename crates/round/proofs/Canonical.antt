@@ -7,16 +7,17 @@ use mathlib.Core.Option.{Option, none, some}
 use mathlib.Core.List.{List, [], _∷_, _++_, List·Memᴰ·head, List·Memᴰ·tail}
 use Prim.Native.Nat.{ℕ, zero, suc, _≤_, _<_}
 use native.Mathlib.Omega.{arith}
-use lib.ListN.{length, getD, length-append}
+use lib.ListN.{length, length-append}
 use lib.Dec.{T, eqb, eqb→eq}
 use Rattle.base.specs.Tests.{_∈_, pick}
 use Rattle.base.proofs.Tests.{dec-T, neqb→ne}
 use Rattle.protocol.specs.Ids.{Id, sameId}
 use Rattle.protocol.specs.Table.{Held, offers, says, Table, at, heldId, places, idsAt, contentOf}
 use Rattle.protocol.proofs.Ids.{sameId-law}
-use Rattle.protocol.proofs.Growth.{at-append, length-tabulate, at-tabulate}
+use Rattle.protocol.proofs.Growth.{at-append, length-tabulate}
 use Rattle.round.specs.Round.{Round}
-use Rattle.round.specs.Held.{idAt, isProposalAt, signerAt, previousAt, referencesAt, recordAt, tableOf, lowest, placeOf}
+use Rattle.round.specs.Held.{idAt, recordAt, tableOf, lowest, placeOf}
+use Rattle.round.proofs.Records.{table-id}
 
 -- ---- the lowest number that passes
 lowest-cong : (f g : ℕ → Bool) (n : ℕ) → ((p : ℕ) → p < n → f p ≡ g p) → lowest f n ≡ lowest g n
@@ -65,14 +66,6 @@ place-stays t u i p e =
 -- a round's table has an entry for each held message, with its id; and an id names the same place in both
 pub table-size : (r : Round) → length (tableOf r) ≡ r .held
 table-size r = length-tabulate (r .held) (recordAt r)
-
-record-id : (b : Bool) (i : Id) (s n : ℕ) (p : Option Id) (l : List ℕ) → heldId (pick b (offers i s n) (says i s p l)) ≡ i
-unfolding heldId
-record-id true i s n p l = refl
-record-id false i s n p l = refl
-
-pub table-id : (r : Round) (p : ℕ) → p < r .held → heldId (at (tableOf r) p) ≡ idAt r p
-table-id r p l = ap heldId (at-tabulate (r .held) (recordAt r) p l) ∙ record-id (isProposalAt r p) (idAt r p) (signerAt r p) (getD (r .ballots) p 0) (previousAt r p) (referencesAt r p)
 
 pub place-law : (r : Round) (i : Id) → placeOf r i ≡ placeIn (tableOf r) i
 unfolding placeOf placeIn

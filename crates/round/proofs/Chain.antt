@@ -1,4 +1,5 @@
--- Demand 3, the chain of replies: what is last sent is the message written last, or none, all along a list of calls.
+-- Demand 3, the chain of replies: what is last sent is the message written last, or none, all along a list of calls. So each written message names
+-- none or a written one.
 use mathlib.Core.Path.{_≡_, refl, sym, ap, subst, _∙_}
 use mathlib.Core.Logic.{_⊎_, inl, inr, _≢_}
 use mathlib.Core.Option.{Option, none, some}

@@ -2,25 +2,21 @@
 -- recent holds no proposal.
 use mathlib.Core.Path.{_≡_, refl, sym, subst, _∙_}
 use mathlib.Core.Logic.{_⊎_, inl, inr, _≢_}
-use mathlib.Core.Option.{none, some}
+use mathlib.Core.Option.{none}
 use mathlib.Core.List.{List, [], _∷_, List·Memᴰ·head, List·Memᴰ·tail}
 use Prim.Native.Nat.{ℕ}
 use native.Mathlib.Omega.{arith}
 use lib.ListN.{take}
 use Rattle.base.specs.Tests.{_∈_}
 use Rattle.base.specs.declared.refusal.Refusal.{Refusal}
-use Rattle.message.specs.Reader.{reading}
-use Rattle.message.specs.declared.AcceptorMessage.{AcceptorMessage}
-use Rattle.message.specs.declared.Reading.the-variants.{OfAcceptor}
 use Rattle.protocol.specs.Ids.{Id}
 use Rattle.round.specs.Round.{Round}
 use Rattle.round.specs.declared.Outcome.{Outcome}
 use Rattle.round.specs.declared.Outcome.the-variants as outcome
 use Rattle.round.specs.Held.{named}
-use Rattle.round.specs.Rows.{referenceIds, previousId}
 use Rattle.round.specs.Delivery.{delivery, replied}
 use Rattle.round.specs.Lists.{Call, deliver, report, after, run, lastRound, writtenBy, written}
-use Rattle.round.specs.Demands.{IdRule, Starts, Typed, ReplySays, ReplyIsChained, RecentHoldsVotes}
+use Rattle.round.specs.Demands.{IdRule, Starts, Typed, ReplySays, OwnChained, ReplyIsChained, RecentHoldsVotes}
 use Rattle.round.proofs.Recent.{RecentHolds}
 use Rattle.round.proofs.OneDelivery.{tells}
 use Rattle.round.proofs.OneCall.{refused-leaves-all, reply-reads-back}
@@ -28,11 +24,7 @@ use Rattle.round.proofs.JustOpened.{opened-round}
 use Rattle.round.proofs.Reached.{step-grows}
 use Rattle.round.proofs.Lists.{refused-or-not}
 
--- z is a message of the acceptor `own` that refers to the previous one it names
-abbrev Chained : ℕ → List ℕ → Type 0
-Chained own z = (f : AcceptorMessage) × (reading z ≡ OfAcceptor f) × (f .signer ≡ own) × ((i : Id) → previousId z f ≡ some i → i ∈ referenceIds z f)
-
-chained-reply : (r : Round) (m : Id) (z : List ℕ) → RecentHolds r → ReplySays r m z → Chained (r .own) z
+chained-reply : (r : Round) (m : Id) (z : List ℕ) → RecentHolds r → ReplySays r m z → OwnChained (r .own) z
 chained-reply r m z inv (f, read, house, bay, own, last, refs) = (f, read, own, λ i e. refs i .1 (inr (inv .last i (sym last ∙ e))))
 
 written-cases : (o : Outcome) (buffer : List ℕ) (l : List (List ℕ)) (z : List ℕ) → z ∈ writtenBy o buffer l → ((n : ℕ) × (o ≡ outcome.Replied n) × (z ≡ take n buffer)) ⊎ (z ∈ l)
@@ -41,13 +33,15 @@ written-cases outcome.Accepted buffer l z m = inr m
 written-cases (outcome.Replied n) buffer l z (List·Memᴰ·head e) = inl (n, refl, e)
 written-cases (outcome.Replied n) buffer l z (List·Memᴰ·tail m) = inr m
 
--- ---- the invariant is kept by each call
+-- THE INVARIANT of a round reached by calls on the acceptor `own`: its numbers are those that its types can hold, it is that acceptor's, and recent is
+-- as proofs/Recent says
 record Holds (own : ℕ) (r : Round) : Type 0 where
   typed : Typed r
   owned : r .own ≡ own
   recent : RecentHolds r
 
 module _ (H : List ℕ → Id) (rule : IdRule H) (own : ℕ) where
+  -- ---- each call keeps it
   call-keeps : (r : Round) (c : Call) → Holds own r → Holds own (after H r c)
   call-keeps r (report a) inv = inv
   call-keeps r (deliver b buffer) inv = step (refused-or-not (delivery H r b buffer .outcome))
@@ -60,20 +54,20 @@ module _ (H : List ℕ → Id) (rule : IdRule H) (own : ℕ) where
           record { typed = t .step .typed; owned = sym (step-grows (t .step) .same .own) ∙ inv .owned; recent = t .recent (inv .recent) }
 
   -- ---- so each written message of a list is chained
-  list-chained : (l : List Call) (r : Round) → Holds own r → (z : List ℕ) → z ∈ written (run H r l) → Chained own z
+  replies-chained : (l : List Call) (r : Round) → Holds own r → (z : List ℕ) → z ∈ written (run H r l) → OwnChained own z
   unfolding run written
-  list-chained [] r inv z m = elim m [ ]
-  list-chained (report a ∷ l) r inv z m = list-chained l r inv z m
-  list-chained (deliver b buffer ∷ l) r inv z m =
-      step (list-chained l (delivery H r b buffer .round) (call-keeps r (deliver b buffer) inv) z)
+  replies-chained [] r inv z m = elim m [ ]
+  replies-chained (report a ∷ l) r inv z m = replies-chained l r inv z m
+  replies-chained (deliver b buffer ∷ l) r inv z m =
+      step (replies-chained l (delivery H r b buffer .round) (call-keeps r (deliver b buffer) inv) z)
       (written-cases (delivery H r b buffer .outcome) (replied H r b buffer) (written (run H (delivery H r b buffer .round) l)) z m)
     where
-      step : (z ∈ written (run H (delivery H r b buffer .round) l) → Chained own z)
+      step : (z ∈ written (run H (delivery H r b buffer .round) l) → OwnChained own z)
           → ((n : ℕ) × (delivery H r b buffer .outcome ≡ outcome.Replied n) × (z ≡ take n (replied H r b buffer))) ⊎ (z ∈ written (run H (delivery H r b buffer .round) l))
-          → Chained own z
+          → OwnChained own z
       step rest (inl (n, d, e)) =
           let said = chained-reply r (H b) (take n (replied H r b buffer)) (inv .recent) (reply-reads-back H rule r (inv .typed) b buffer n d) in
-          subst (λ (p : ℕ). Chained p z) (inv .owned) (subst (Chained (r .own)) (sym e) said)
+          subst (λ (p : ℕ). OwnChained p z) (inv .owned) (subst (OwnChained (r .own)) (sym e) said)
       step rest (inr k) = rest k
 
   list-holds : (l : List Call) (r : Round) → Holds own r → Holds own (lastRound H r l)
@@ -91,7 +85,7 @@ opened-holds file house bay own r starts =
     record { typed = o .typed; owned = o .own′; recent = nothing-yet r (o .last) (o .held) }
 
 pub replyIsChained : ReplyIsChained
-replyIsChained H rule file house bay own r starts l z m = list-chained H rule own l r (opened-holds file house bay own r starts) z m
+replyIsChained H rule file house bay own r starts l z m = replies-chained H rule own l r (opened-holds file house bay own r starts) z m
 
 pub recentHoldsVotes : RecentHoldsVotes
 recentHoldsVotes H rule file house bay own r starts l q = list-holds H rule own l r (opened-holds file house bay own r starts) .recent .votes q

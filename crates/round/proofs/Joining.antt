@@ -1,8 +1,8 @@
 -- A record joins a table of held messages, known or not: the invariant of proofs/Kept stays.
-use mathlib.Core.Path.{_≡_, refl, sym, ap, subst, _∙_}
+use mathlib.Core.Path.{_≡_, sym, ap, subst, _∙_}
 use mathlib.Core.Logic.{_⊎_, inl, inr}
 use mathlib.Core.Bool.{Bool, not}
-use mathlib.Core.List.{List, [], _∷_, _++_, List·Memᴰ·head, List·Memᴰ·tail}
+use mathlib.Core.List.{List, [], _∷_, _++_}
 use Prim.Native.Nat.{ℕ, _+_, _<_}
 use native.Mathlib.Omega.{arith}
 use lib.ListN.{length, length-append}
@@ -10,22 +10,11 @@ use lib.Dec.{T, eqb, ltb, eqb→eq, ltb→lt, nltb→le}
 use Rattle.base.specs.Tests.{_∈_}
 use Rattle.base.proofs.Tests.{dec-T, neqb→ne}
 use Rattle.protocol.specs.Ids.{Id}
-use Rattle.protocol.specs.Table.{Held, offers, says, Table, at, heldId, offered, places, Ordered, nodeBy, tree, joint, idsAt, contentOf}
+use Rattle.protocol.specs.Table.{Held, Table, at, heldId, offered, places, Ordered, nodeBy, tree, contentOf}
 use Rattle.protocol.proofs.Table.{at-past, nothing-past}
-use Rattle.protocol.proofs.Growth.{at-append, at-end, tree-append, content-append, ordered-snoc, tree-end}
+use Rattle.protocol.proofs.Growth.{at-append, at-end, contentOf-append, tree-append, content-append, ordered-snoc, tree-end}
 use Rattle.round.proofs.Canonical.{Canonical, canonical-stays}
 use Rattle.round.proofs.Kept.{Source, IdFrom, Checks, checks-cast, Kept}
-
--- ---- what a record says stays as the table grows
-ids-stay : (t u : Table) (l : List ℕ) → ((j : ℕ) → j ∈ l → j < length t) → idsAt (t ++ u) l ≡ idsAt t l
-unfolding idsAt
-ids-stay t u [] f = refl
-ids-stay t u (j ∷ l) f = λ i. heldId (at-append t u j (f j (List·Memᴰ·head refl)) i) ∷ ids-stay t u l (λ q m. f q (List·Memᴰ·tail m)) i
-
-content-stays : (t u : Table) (h : Held) → ((j : ℕ) → j ∈ places h → j < length t) → contentOf (t ++ u) h ≡ contentOf t h
-unfolding contentOf places
-content-stays t u (offers i s b) f = refl
-content-stays t u (says i s p l) f = ap (joint s p) (ids-stay t u l f)
 
 -- what holds of the places below n, and of n, holds of those up to n
 each-place : (P : ℕ → Type 0) (n : ℕ) → ((p : ℕ) → p < n → P p) → P n → (p : ℕ) → p < n + 1 → P p
@@ -78,7 +67,7 @@ module _ {H : List ℕ → Id} {A W : List (List ℕ)} {t : Table} {k : ℕ → 
     canonical = canonical-longer;
     source = each (λ p. Source H A W longer (at longer p))
         (λ p b. source-cast t longer (at t p) (at longer p) (sym (at-append t (h ∷ []) p b)) (content-append t (h ∷ []) (kept .ordered) p b) (kept .source p b))
-        (source-cast t longer h (at longer (length t)) (sym (at-end t h)) (ap (contentOf longer) (at-end t h) ∙ content-stays t (h ∷ []) h earlier) source);
+        (source-cast t longer h (at longer (length t)) (sym (at-end t h)) (ap (contentOf longer) (at-end t h) ∙ contentOf-append t (h ∷ []) h earlier) source);
     delivered = each (λ p. T (l p) → IdFrom H A (heldId (at longer p)))
         (λ p b x. subst (λ (q : Held). IdFrom H A (heldId q)) (sym (at-append t (h ∷ []) p b)) (kept .delivered p b (subst T (e p b) x)))
         (λ x. subst (λ (q : Held). IdFrom H A (heldId q)) (sym (at-end t h)) (inA x));

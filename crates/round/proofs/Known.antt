@@ -26,7 +26,13 @@ use Rattle.round.proofs.Kept.{Source, source-inside}
 use Rattle.round.proofs.Reached.{Reached, Grows, grows-size}
 use Rattle.round.proofs.Lists.{Stands, fresh-reached, list-keeps, report-stands}
 
--- ---- the known places
+-- ---- all places, and the known ones
+abbrev pub heldPlaces : Round → List ℕ
+heldPlaces r = below (r .held)
+
+pub held-inside : (r : Round) (p : ℕ) → p ∈ heldPlaces r → p < length (tableOf r)
+held-inside r p m = omega (arith, below-out (r .held) m, table-size r)
+
 pub known-in : (r : Round) (p : ℕ) → p < r .held → T (isKnown r p) → p ∈ knownPlaces r
 known-in r p l h = filter-in (isKnown r) (below-in (r .held) l) h
 
@@ -47,13 +53,12 @@ pub record Heard (H : List ℕ → Id) (A : List (List ℕ)) (t : Table) (p : �
 
 module _ {H : List ℕ → Id} {A W : List (List ℕ)} {r : Round} (reached : Reached H A W r) (free : NoCollision H (A ++ W)) where
   inside : (p : ℕ) → p ∈ knownPlaces r → p < length (tableOf r)
-  inside p m = omega (arith, known-out r p m .0, table-size r)
+  inside p m = held-inside r p (filter-out (isKnown r) (heldPlaces r) m .0)
 
   pub accepted-places : Accepted (tableOf r) (knownPlaces r)
   accepted-places = record {
     chains = record {
       ordered = reached .kept .ordered;
-      inside = inside;
       closed = λ i j m k. known-in r j (omega (arith, reached .kept .ordered i j k, known-out r i m .0)) (reached .kept .checked free i (inside i m) (known-out r i m .1) .beneath j k);
       links = λ i m. reached .kept .checked free i (inside i m) (known-out r i m .1) .links;
     };
@@ -73,15 +78,9 @@ module _ {H : List ℕ → Id} {A W : List (List ℕ)} {r : Round} (reached : Re
       }
 
 -- ---- in two rounds whose messages are told apart by their ids, one id has one content: at all places, and so at the known ones
-abbrev pub everywhere : Round → List ℕ
-everywhere r = below (r .held)
-
-pub held-inside : (r : Round) (p : ℕ) → p ∈ everywhere r → p < length (tableOf r)
-held-inside r p m = omega (arith, below-out (r .held) m, table-size r)
-
 module _ {H : List ℕ → Id} {A W B X M : List (List ℕ)} {r s : Round} (reached₁ : Reached H A W r) (reached₂ : Reached H B X s)
     (inM₁ : Within (A ++ W) M) (inM₂ : Within (B ++ X) M) (free : NoCollision H M) where
-  pub held-apart : theorems.NoCollision (tableOf r) (everywhere r) (tableOf s) (everywhere s)
+  pub held-apart : theorems.NoCollision (tableOf r) (heldPlaces r) (tableOf s) (heldPlaces s)
   held-apart i j m k e =
       let x = reached₁ .kept .source i (held-inside r i m) in
       let y = reached₂ .kept .source j (held-inside s j k) in
@@ -90,7 +89,7 @@ module _ {H : List ℕ → Id} {A W B X M : List (List ℕ)} {r s : Round} (reac
       ∙ sym (y .content)
 
   pub known-apart : theorems.NoCollision (tableOf r) (knownPlaces r) (tableOf s) (knownPlaces s)
-  known-apart i j m k e = held-apart i j (filter-out (isKnown r) (everywhere r) m .0) (filter-out (isKnown s) (everywhere s) k .0) e
+  known-apart i j m k e = held-apart i j (filter-out (isKnown r) (heldPlaces r) m .0) (filter-out (isKnown s) (heldPlaces s) k .0) e
 
 -- ---- from an opening, over a whole list
 module _ (laws : CallLaws) {H : List ℕ → Id} (rule : IdRule H) {file : List ℕ} {house bay own : ℕ} {r : Round} (starts : Starts file house bay own r) (l : List Call) where

@@ -49,11 +49,11 @@ pub mod Joining
 pub mod Reached
 -- The invariant along a list of calls, and the round of each report
 pub mod Lists
--- Demand 3: the chain of replies
+-- Demand 3: the chain of replies; each written message names none or a written one
 pub mod Chain
--- Last sent is in recent all along a list, so each reply refers to the message that it names; and recent holds no proposal
+-- Last sent is in recent all along a list, so each reply refers to the message that it names; it is the own acceptor's; and recent holds no proposal
 pub mod Chained
--- The known places of a round reached by calls; such a round passes 17
+-- The known places of a round reached by calls; such a round passes 17; at all places, one id has one content
 pub mod Known
 -- What is read in the bytes of a record, and what a report says
 pub mod Bytes
@@ -67,7 +67,7 @@ pub mod Reporting
 pub mod TwoLists
 -- Demand 3: agreement over two lists
 pub mod Agreement
--- Every held message is chained, so both texts catch the same acceptors, and in two boxes, too
+-- Every held message is chained, so both texts catch the same acceptors, in one round and in two
 pub mod November
 -- The demands over lists of calls, with nothing left open
 pub mod Demands

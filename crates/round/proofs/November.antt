@@ -1,5 +1,5 @@
 -- Every held message of a round reached by calls is chained: a known one passed row 12, and one that awaits its return was written, names a written
--- message and refers to it. So both texts catch the same acceptors in each of them, and in a message that two boxes hold.
+-- message and refers to it. So both texts catch the same acceptors in each of them, and in a message that two rounds hold.
 use mathlib.Core.Path.{_≡_, sym, ap, subst, _∙_}
 use mathlib.Core.Logic.{_⊎_, inl, inr}
 use mathlib.Core.Bool.{Bool, not}
@@ -17,10 +17,10 @@ use Rattle.message.specs.declared.Reading.the-variants.{OfAcceptor}
 use Rattle.protocol.specs.Ids.{Id}
 use Rattle.protocol.specs.Message.{Message, previous, references, caught}
 use Rattle.protocol.specs.WellFormed.{chained}
-use Rattle.protocol.specs.Table.{Held, offers, says, Table, at, heldId, heldSigner, heldPrevious, offered, places, nodeBy, tree, joint, idsAt, contentOf}
+use Rattle.protocol.specs.Table.{Held, offers, says, Table, at, heldId, heldSigner, heldPrevious, offered, places, tree, joint, idsAt, contentOf}
 use Rattle.protocol.specs.Theorems.{ChainedAt}
 use Rattle.protocol.proofs.WellFormed.{Previous, chained-law}
-use Rattle.protocol.proofs.Table.{tree-is, tree-id, tree-signer, tree-previous, tree-proposal}
+use Rattle.protocol.proofs.Table.{tree-is, tree-id, tree-signer, tree-previous, tree-proposal, node-refers}
 use Rattle.protocol.proofs.Tables.{same-tree}
 use Rattle.protocol.proofs.November.{same-caught-at}
 use Rattle.round.specs.Round.{Round}
@@ -30,48 +30,41 @@ use Rattle.round.specs.Lists.{Call, run, lastRound, accepted, written}
 use Rattle.round.specs.Demands.{IdRule, Starts, NoCollision, SameCaughtIn, SameCaughtOverLists, OneCaughtList}
 use Rattle.round.proofs.CallLaws.{CallLaws}
 use Rattle.round.proofs.Step.{contentRead, contentIn}
-use Rattle.round.proofs.Canonical.{table-id}
-use Rattle.round.proofs.Arriving.{gather-in}
+use Rattle.round.proofs.Records.{table-id}
 use Rattle.round.proofs.Kept.{IdFrom, source-inside}
 use Rattle.round.proofs.Reached.{Reached}
-use Rattle.round.proofs.Known.{everywhere, held-inside, held-apart, reached-last}
+use Rattle.round.proofs.Known.{heldPlaces, held-inside, held-apart, reached-last}
 use Rattle.round.proofs.Chain.{chain-of-list, written-names-written}
 use Rattle.round.proofs.Chained.{replyIsChained}
-use Rattle.round.proofs.TwoLists.{restricted, first-list, second-list}
+use Rattle.round.proofs.TwoLists.{first-list, second-list, first-free, second-free}
 
--- ---- what is known of the written messages W: each is a message of `own`; what it names is among its references, and was written
-pub record Speaks (H : List ℕ → Id) (own : ℕ) (W : List (List ℕ)) (z : List ℕ) : Type 0 where
-  pub fields : AcceptorMessage
-  pub reads : reading z ≡ OfAcceptor fields
-  pub signed : fields .signer ≡ own
-  pub refers : (i : Id) → previousId z fields ≡ some i → i ∈ referenceIds z fields
-  pub before : (i : Id) → previousId z fields ≡ some i → IdFrom H W i
+-- ---- what holds of a written message z, W being all of them: it is chained, and what it names was written
+record Sent (H : List ℕ → Id) (own : ℕ) (W : List (List ℕ)) (z : List ℕ) : Type 0 where
+  fields : AcceptorMessage
+  reads : reading z ≡ OfAcceptor fields
+  signed : fields .signer ≡ own
+  refers : (i : Id) → previousId z fields ≡ some i → i ∈ referenceIds z fields
+  before : (i : Id) → previousId z fields ≡ some i → IdFrom H W i
 
 -- ---- a record with the content of an acceptor message
-pub record Vote (t : Table) (h : Held) (signer : ℕ) (previous : Option Id) (ids : List Id) : Type 0 where
-  pub isVote : T (not (offered h))
-  pub signed : heldSigner h ≡ signer
-  pub names : heldPrevious h ≡ previous
-  pub refers : idsAt t (places h) ≡ ids
+record Vote (t : Table) (h : Held) (signer : ℕ) (previous : Option Id) (ids : List Id) : Type 0 where
+  isVote : T (not (offered h))
+  signed : heldSigner h ≡ signer
+  names : heldPrevious h ≡ previous
+  list : idsAt t (places h) ≡ ids
 
 vote-of : (t : Table) (h : Held) (s : ℕ) (p : Option Id) (ids : List Id) → contentOf t h ≡ joint s p ids → Vote t h s p ids
 unfolding contentOf heldSigner heldPrevious offered places
 vote-of t (offers i v b) s p ids e = let z : _≡_ {A = ℕ} 0 1 = cc in absurd (omega arith)
-vote-of t (says i v o l) s p ids e = record { isVote = tt; signed = cc; names = cc; refers = cc }
+vote-of t (says i v o l) s p ids e = record { isVote = tt; signed = cc; names = cc; list = cc }
 
 -- an id at some places is that of one of them
 ids-out : (t : Table) (l : List ℕ) {i : Id} → i ∈ idsAt t l → (j : ℕ) × (j ∈ l) × (i ≡ heldId (at t j))
 unfolding idsAt
 ids-out t l m = map-out (λ k. heldId (at t k)) l m
 
--- what a place refers to is a reference of its message
-node-refers : (f : ℕ → Message) (h : Held) (j : ℕ) → j ∈ places h → f j ∈ references (nodeBy f h)
-unfolding nodeBy references places
-node-refers f (offers i s b) j m = elim m [ ]
-node-refers f (says i s p l) j m = gather-in f m
-
 module _ {H : List ℕ → Id} {A W : List (List ℕ)} {r : Round} (reached : Reached H A W r) (free : NoCollision H (A ++ W))
-    (own : ℕ) (sent : (z : List ℕ) → z ∈ W → Speaks H own W z) where
+    (own : ℕ) (sent : (z : List ℕ) → z ∈ W → Sent H own W z) where
   abbrev t : Table
   t = tableOf r
 
@@ -94,12 +87,12 @@ module _ {H : List ℕ → Id} {A W : List (List ℕ)} {r : Round} (reached : Re
           let (z, m, e) = reached .kept .awaited p l u in
           let v = says-written p l z m e in
           let o : previousId z (sent z m .fields) ≡ some i = sym (v .names) ∙ sym (tree-previous t p) ∙ d in
-          let (j, k, q) = ids-out t (places (at t p)) (subst (λ (x : List Id). i ∈ x) (sym (v .refers)) (sent z m .refers i o)) in
+          let (j, k, q) = ids-out t (places (at t p)) (subst (λ (x : List Id). i ∈ x) (sym (v .list)) (sent z m .refers i o)) in
           let (y, n, c) = sent z m .before i o in
           let w = says-written j (omega (arith, reached .kept .ordered p j k)) y n (sym q ∙ c) in (
             tree t j,
             (
-              subst (λ (x : Message). tree t j ∈ references x) (sym (tree-is t (reached .kept .ordered) p)) (node-refers (tree t) (at t p) j k),
+              subst (λ (x : Message). tree t j ∈ references x) (sym (tree-is t (reached .kept .ordered) p)) (node-refers (tree t) (at t p) k),
               subst (λ (b : Bool). T (not b)) (sym (tree-proposal t j)) (w .isVote),
               tree-id t j ∙ sym q,
               tree-signer t j ∙ w .signed ∙ sym (v .signed) ∙ sym (tree-signer t p),
@@ -107,10 +100,9 @@ module _ {H : List ℕ → Id} {A W : List (List ℕ)} {r : Round} (reached : Re
           )
 
   -- ---- and so is every place
-  pub held-chained : ChainedAt t (everywhere r)
+  held-chained : ChainedAt t (heldPlaces r)
   held-chained = record {
     ordered = reached .kept .ordered;
-    inside = held-inside r;
     closed = λ i j m k. below-in (r .held) (omega (arith, reached .kept .ordered i j k, below-out (r .held) m));
     links = λ p m. step p (held-inside r p m) (dec-T (isKnown r p));
   }
@@ -122,8 +114,8 @@ module _ {H : List ℕ → Id} {A W : List (List ℕ)} {r : Round} (reached : Re
 -- ---- over every list of calls
 module _ (laws : CallLaws) {H : List ℕ → Id} (rule : IdRule H) {file : List ℕ} {house bay own : ℕ} {r : Round} (starts : Starts file house bay own r) (l : List Call)
     (free : NoCollision H (accepted (run H r l) ++ written (run H r l))) where
-  speaks : (z : List ℕ) → z ∈ written (run H r l) → Speaks H own (written (run H r l)) z
-  speaks z m =
+  written-sent : (z : List ℕ) → z ∈ written (run H r l) → Sent H own (written (run H r l)) z
+  written-sent z m =
       let (f, read, signed, refers) = replyIsChained H rule file house bay own r starts l z m in
       record {
         fields = f;
@@ -133,50 +125,51 @@ module _ (laws : CallLaws) {H : List ℕ → Id} (rule : IdRule H) {file : List 
         before = written-names-written H (written (run H r l)) (chain-of-list laws H rule file house bay own r starts l) z m f read;
       }
 
-  list-chained : ChainedAt (tableOf (lastRound H r l)) (everywhere (lastRound H r l))
-  list-chained = held-chained (reached-last laws rule starts l .0) free own speaks
+  places-chained : ChainedAt (tableOf (lastRound H r l)) (heldPlaces (lastRound H r l))
+  places-chained = held-chained (reached-last laws rule starts l .0) free own written-sent
 
   same-caught-in : SameCaughtIn (lastRound H r l)
   same-caught-in p a i =
       let reached = reached-last laws rule starts l .0 in
       let s = lastRound H r l in
-      same-caught-at (tableOf s) (everywhere s) list-chained (held-apart reached reached (λ m k. k) (λ m k. k) free) p (below-in (s .held) i) a
+      same-caught-at (tableOf s) (heldPlaces s) places-chained (held-apart reached reached (λ m k. k) (λ m k. k) free) p (below-in (s .held) i) a
 
 -- BOTH TEXTS CATCH THE SAME ACCEPTORS
 pub sameCaughtOverLists : CallLaws → SameCaughtOverLists
 sameCaughtOverLists laws H rule file house bay own r starts l free = same-caught-in laws rule starts l free
 
--- AND TWO BOXES, ONE ON EACH TEXT, HAVE ONE LIST: the message that both hold is the same one
+-- AND IN TWO ROUNDS: the message that both hold is the same one
 pub oneCaughtList : CallLaws → OneCaughtList
-oneCaughtList laws H rule file house bay ownA ownB rA rB startsA startsB lA lB free p q i j e a =
+oneCaughtList laws H rule fileA fileB house bay ownA ownB rA rB startsA startsB lA lB free p q i j e a =
     same-caught-in laws rule startsA lA freeA p a i ∙ ap (λ (m : Message). caught m a) one
   where
-    A : List (List ℕ)
-    A = accepted (run H rA lA)
+    AA : List (List ℕ)
+    AA = accepted (run H rA lA)
 
-    B : List (List ℕ)
-    B = accepted (run H rB lB)
+    AB : List (List ℕ)
+    AB = accepted (run H rB lB)
 
-    W : List (List ℕ)
-    W = written (run H rA lA)
+    WA : List (List ℕ)
+    WA = written (run H rA lA)
 
-    X : List (List ℕ)
-    X = written (run H rB lB)
+    WB : List (List ℕ)
+    WB = written (run H rB lB)
 
-    s : Round
-    s = lastRound H rA lA
+    endA : Round
+    endA = lastRound H rA lA
 
-    u : Round
-    u = lastRound H rB lB
+    endB : Round
+    endB = lastRound H rB lB
 
-    freeA : NoCollision H (A ++ W)
-    freeA = restricted (first-list A B W X) free
+    freeA : NoCollision H (AA ++ WA)
+    freeA = first-free AA AB WA WB free
 
-    freeB : NoCollision H (B ++ X)
-    freeB = restricted (second-list A B W X) free
+    freeB : NoCollision H (AB ++ WB)
+    freeB = second-free AA AB WA WB free
 
-    one : tree (tableOf s) p ≡ tree (tableOf u) q
-    one = same-tree (tableOf s) (tableOf u) (everywhere s) (everywhere u) (list-chained laws rule startsA lA freeA) (list-chained laws rule startsB lB freeB)
-        (held-apart (reached-last laws rule startsA lA .0) (reached-last laws rule startsB lB .0) (first-list A B W X) (second-list A B W X) free)
-        p q (below-in (s .held) i) (below-in (u .held) j)
-        (tree-id (tableOf s) p ∙ table-id s p i ∙ e ∙ sym (table-id u q j) ∙ sym (tree-id (tableOf u) q))
+    one : tree (tableOf endA) p ≡ tree (tableOf endB) q
+    one = same-tree (tableOf endA) (tableOf endB) (heldPlaces endA) (heldPlaces endB)
+        (places-chained laws rule startsA lA freeA) (places-chained laws rule startsB lB freeB)
+        (held-apart (reached-last laws rule startsA lA .0) (reached-last laws rule startsB lB .0) (first-list AA AB WA WB) (second-list AA AB WA WB) free)
+        p q (below-in (endA .held) i) (below-in (endB .held) j)
+        (tree-id (tableOf endA) p ∙ table-id endA p i ∙ e ∙ sym (table-id endB q j) ∙ sym (tree-id (tableOf endB) q))

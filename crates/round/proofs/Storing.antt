@@ -19,7 +19,8 @@ use Rattle.round.proofs.Step.{Returns, Appends, Arrives}
 use Rattle.round.proofs.Named.{place-none, place-some, held-found}
 use Rattle.round.proofs.Arriving.{placed-out}
 use Rattle.round.proofs.OneDelivery.{tells}
-use Rattle.round.proofs.Canonical.{placeIn, place-stays, place-law, table-size, table-id}
+use Rattle.round.proofs.Canonical.{placeIn, place-stays, place-law, table-size}
+use Rattle.round.proofs.Records.{table-id}
 use Rattle.round.proofs.Reached.{Grows, answers-grow, step-grows}
 
 known-at : (r : Round) (i : Id) (p : ℕ) → placeOf r i ≡ some p → T (isKnown r p) → T (isKnownId r i)

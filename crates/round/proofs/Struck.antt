@@ -17,7 +17,7 @@ use Rattle.protocol.specs.Ids.{Id}
 use Rattle.protocol.specs.Message.{references, isProposal}
 use Rattle.protocol.specs.Table.{Table, says, at, offered, Ordered, nodeBy, tree, reach}
 use Rattle.protocol.proofs.Message.{tran-law}
-use Rattle.protocol.proofs.Table.{tree-proposal, reach-self, reach-step, tran-places}
+use Rattle.protocol.proofs.Table.{tree-proposal, reach-self, reach-step, tran-places, gather-in}
 use Rattle.round.specs.Round.{Round}
 use Rattle.round.specs.Held.{isProposalAt, tableOf, placeOf}
 use Rattle.round.specs.Rows.{idsFrom, referenceIds, previousId, orZero, acceptorRows, firstOf}
@@ -26,7 +26,7 @@ use Rattle.round.proofs.Named.{place-some}
 use Rattle.round.proofs.Fitting.{Fitting, fits-out}
 use Rattle.round.proofs.Records.{table-offered}
 use Rattle.round.proofs.Tables.{ordered-table, refers}
-use Rattle.round.proofs.Arriving.{all-known, gather-in, placesOf, referred}
+use Rattle.round.proofs.Arriving.{all-known, placesOf, referred}
 
 -- ---- beneath every held place
 module _ (r : Round) (typed : Typed r) (fit : Fitting r) where

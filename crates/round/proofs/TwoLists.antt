@@ -8,7 +8,7 @@ use Rattle.protocol.specs.Theorems.{Within}
 use Rattle.round.specs.Demands.{NoCollision}
 
 -- messages told apart by their ids, in part of a list
-pub restricted : {H : List ℕ → Id} {L M : List (List ℕ)} → Within L M → NoCollision H M → NoCollision H L
+restricted : {H : List ℕ → Id} {L M : List (List ℕ)} → Within L M → NoCollision H M → NoCollision H L
 restricted inM free m n i j e = free m n (inM m i) (inM n j) e
 
 joined : {L K M : List (List ℕ)} → Within L M → Within K M → Within (L ++ K) M
@@ -27,3 +27,10 @@ module _ (A B W X : List (List ℕ)) where
 
   pub second-list : Within (B ++ X) Both
   second-list = joined {L = B} {K = X} (λ m i. Memᴰ·append-left (W ++ X) (Memᴰ·append-right A i)) (λ m i. Memᴰ·append-right (A ++ B) (Memᴰ·append-right W i))
+
+  -- each of the lists by itself
+  pub first-free : {H : List ℕ → Id} → NoCollision H Both → NoCollision H (A ++ W)
+  first-free free = restricted first-list free
+
+  pub second-free : {H : List ℕ → Id} → NoCollision H Both → NoCollision H (B ++ X)
+  second-free free = restricted second-list free

@@ -179,10 +179,12 @@ ValidityOverLists = (H : List ℕ → Id) → IdRule H → (file : List ℕ) (ho
     → (m : List ℕ) × (m ∈ accepted (run H r l)) × ((f : Proposal) × (reading m ≡ OfProposer f) × (f .ballot ≡ x))
 
 -- a written message is the own acceptor's, and one that names a previous message refers to it, as row 12 asks of a message that arrives
+abbrev pub OwnChained : ℕ → List ℕ → Type 0
+OwnChained own z = (f : AcceptorMessage) × (reading z ≡ OfAcceptor f) × (f .signer ≡ own) × ((i : Id) → previousId z f ≡ some i → i ∈ referenceIds z f)
+
 abbrev pub ReplyIsChained : Type 0
 ReplyIsChained = (H : List ℕ → Id) → IdRule H → (file : List ℕ) (house bay own : ℕ) (r : Round) → Starts file house bay own r
-    → (l : List Call) (z : List ℕ) → z ∈ written (run H r l)
-    → (f : AcceptorMessage) × (reading z ≡ OfAcceptor f) × (f .signer ≡ own) × ((i : Id) → previousId z f ≡ some i → i ∈ referenceIds z f)
+    → (l : List Call) (z : List ℕ) → z ∈ written (run H r l) → OwnChained own z
 
 -- "m joins recent unless it is a proposal": no proposal is ever in recent
 abbrev pub RecentHoldsVotes : Type 0
@@ -305,10 +307,11 @@ abbrev pub SameCaughtOverLists : Type 0
 SameCaughtOverLists = (H : List ℕ → Id) → IdRule H → (file : List ℕ) (house bay own : ℕ) (r : Round) → Starts file house bay own r
     → (l : List Call) → NoCollision H (accepted (run H r l) ++ written (run H r l)) → SameCaughtIn (lastRound H r l)
 
--- "Growers on mixed sites may then rely on one list of caught controllers": two boxes follow one house and bay, one of them by the November text, and
--- both hold a message with one id, at place p and at place q. It tells both of the same acceptors.
+-- "Growers on mixed sites may then rely on one list of caught controllers": two rounds of one house and bay, under whatever plans, hold a message with
+-- one id, at place p and at place q. The November text, read in the one, catches in it whom the report catches in the other.
 abbrev pub OneCaughtList : Type 0
-OneCaughtList = (H : List ℕ → Id) → IdRule H → (file : List ℕ) (house bay ownA ownB : ℕ) (rA rB : Round) → Starts file house bay ownA rA → Starts file house bay ownB rB
+OneCaughtList = (H : List ℕ → Id) → IdRule H → (fileA fileB : List ℕ) (house bay ownA ownB : ℕ) (rA rB : Round)
+    → Starts fileA house bay ownA rA → Starts fileB house bay ownB rB
     → (lA lB : List Call)
     → NoCollision H ((accepted (run H rA lA) ++ accepted (run H rB lB)) ++ (written (run H rA lA) ++ written (run H rB lB)))
     → (p q : ℕ) → p < lastRound H rA lA .held → q < lastRound H rB lB .held → idAt (lastRound H rA lA) p ≡ idAt (lastRound H rB lB) q

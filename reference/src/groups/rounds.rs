@@ -24,7 +24,7 @@ use watched::{Counts, Referee};
 const ROUNDS: u64 = if cfg!(feature = "rounds") { 20_000 } else { 1_000 };
 /// How many openings from random files are tried beside each site.
 const OPENINGS: usize = 3;
-/// How often each number must be reached.
+/// How often each number and each kind of case must be reached.
 const LEAST: u64 = if cfg!(feature = "rounds") { 100 } else { 1 };
 /// What the lines say of a run without the library.
 const ALONE: &str = if cfg!(feature = "rounds") { "" } else { ", the model alone" };

@@ -26,8 +26,8 @@ pub struct Neighbours {
     pub caught: u64,
 }
 
-fn signers(mask: Mask) -> BTreeSet<u8> {
-    (0..16).filter(|signer| mask >> signer & 1 == 1).collect()
+fn acceptors_in(mask: Mask) -> BTreeSet<u8> {
+    (0..Mask::BITS as u8).filter(|acceptor| mask >> acceptor & 1 == 1).collect()
 }
 
 impl Neighbours {
@@ -47,11 +47,11 @@ impl Neighbours {
         let mut in_round = BTreeSet::new();
         for (m, message) in messages.iter().enumerate() {
             let november = text.caught(m);
-            let december = signers(round.history.caught(m));
+            let december = acceptors_in(round.history.caught(m));
             self.shared += u64::from(first.contains_key(&message.id));
             let elsewhere = first.entry(message.id).or_insert_with(|| december.clone());
             self.tally.check(november == december && november == *elsewhere, || {
-                format!("message {m}: {november:?} by the November text, {december:?} by the report, {elsewhere:?} by the report in another round")
+                format!("message {m}: {november:?} by the November text, {december:?} by the report, {elsewhere:?} by the report in the first round that holds it")
             });
             self.awaiting += u64::from(!round.known[m]);
             self.caught += december.len() as u64;
