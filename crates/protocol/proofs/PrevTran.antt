@@ -37,11 +37,11 @@ prevTran-self (proposal i s b) = List·Memᴰ·head refl
 prevTran-self (acceptor i s p r) = List·Memᴰ·head refl
 
 -- ---- PrevTran is the chain: what is in PrevTran is on the chain
-picked-in : (b : Bool) {y : Message} {l : List Message} → T b → y ∈ l → y ∈ pick b l []
+picked-in : {A : Type 0} (b : Bool) {y : A} {l : List A} → T b → y ∈ l → y ∈ pick b l []
 picked-in true t h = h
 picked-in false t h = absurd t
 
-picked-out : (b : Bool) {y : Message} (l : List Message) → y ∈ pick b l [] → T b × (y ∈ l)
+picked-out : {A : Type 0} (b : Bool) {y : A} (l : List A) → y ∈ pick b l [] → T b × (y ∈ l)
 picked-out true l h = (tt, h)
 picked-out false l h = elim h [ ]
 

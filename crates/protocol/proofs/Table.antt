@@ -47,12 +47,12 @@ tree-is t ord i = node-cong (treeIn t i) (tree t) (at t i) (λ j m. tree-stable 
 
 -- ---- its fields are those of the record
 module _ (f : ℕ → Message) where
-  pub node-id : (r : Held) → idOf (nodeBy f r) ≡ heldId r
+  node-id : (r : Held) → idOf (nodeBy f r) ≡ heldId r
   unfolding nodeBy idOf heldId
   node-id (offers i s b) = refl
   node-id (says i s p r) = refl
 
-  pub node-signer : (r : Held) → signer (nodeBy f r) ≡ heldSigner r
+  node-signer : (r : Held) → signer (nodeBy f r) ≡ heldSigner r
   unfolding nodeBy signer heldSigner
   node-signer (offers i s b) = refl
   node-signer (says i s p r) = refl
@@ -62,7 +62,7 @@ module _ (f : ℕ → Message) where
   node-previous (offers i s b) = refl
   node-previous (says i s p r) = refl
 
-  pub node-proposal : (r : Held) → isProposal (nodeBy f r) ≡ offered r
+  node-proposal : (r : Held) → isProposal (nodeBy f r) ≡ offered r
   unfolding nodeBy isProposal offered
   node-proposal (offers i s b) = refl
   node-proposal (says i s p r) = refl

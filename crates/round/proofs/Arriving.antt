@@ -10,9 +10,9 @@ use Rattle.base.proofs.Tests.{and-in, and-l, and-r, any-in, any-out, all-out, m
 use Rattle.protocol.specs.Ids.{Id, sameId}
 use Rattle.protocol.specs.Message.{Message, acceptor, idOf, signer, previous, references, isProposal, isAcceptor}
 use Rattle.protocol.specs.WellFormed.{isPrevious, linked, chained}
-use Rattle.protocol.specs.Table.{says, at, gather, nodeBy, treeIn, tree}
+use Rattle.protocol.specs.Table.{says, gather, nodeBy, tree}
 use Rattle.protocol.proofs.Ids.{sameId-law}
-use Rattle.protocol.proofs.Table.{node-id, node-signer, node-proposal, gather-in}
+use Rattle.protocol.proofs.Table.{tree-id, tree-signer, tree-proposal, gather-in}
 use Rattle.round.specs.Round.{Round}
 use Rattle.round.specs.Held.{idAt, isKnown, isProposalAt, signerAt, tableOf, placeOf}
 use Rattle.round.specs.Rows.{placed, orZero, isKnownId, lacks, isVoteOf, unchained}
@@ -78,12 +78,12 @@ module _ (r : Round) where
 
   -- the message of a place p with an acceptor message of s
   is-previous : (m : Message) (i : Id) (p : ℕ) → p < r .held → idAt r p ≡ i → T (isVoteOf r (signer m) p) → T (isPrevious m i (tree (tableOf r) p))
-  unfolding isPrevious tree treeIn
+  unfolding isPrevious
   is-previous m i p l e v =
-      let u = nodeBy (treeIn (tableOf r) p) (at (tableOf r) p) in
-      let a : not (isProposal u) ≡ not (isProposalAt r p) = ap not (node-proposal (treeIn (tableOf r) p) (at (tableOf r) p) ∙ table-offered r p l) in
-      let b : idOf u ≡ i = node-id (treeIn (tableOf r) p) (at (tableOf r) p) ∙ table-id r p l ∙ e in
-      let c : signer u ≡ signerAt r p = node-signer (treeIn (tableOf r) p) (at (tableOf r) p) ∙ table-signer r p l in
+      let u = tree (tableOf r) p in
+      let a : not (isProposal u) ≡ not (isProposalAt r p) = ap not (tree-proposal (tableOf r) p ∙ table-offered r p l) in
+      let b : idOf u ≡ i = tree-id (tableOf r) p ∙ table-id r p l ∙ e in
+      let c : signer u ≡ signerAt r p = tree-signer (tableOf r) p ∙ table-signer r p l in
       let d : signerAt r p ≡ signer m = eqb→eq (signerAt r p) (signer m) (and-r (not (isProposalAt r p)) (eqb (signerAt r p) (signer m)) v) in
       and-in (isAcceptor u && sameId (idOf u) i) (eqb (signer u) (signer m))
       (and-in (isAcceptor u) (sameId (idOf u) i)

@@ -3,7 +3,7 @@
 use mathlib.Core.Path.{_≡_, refl, subst}
 use mathlib.Core.Bool.{Bool, true, false, not}
 use mathlib.Core.List.{List, [], _∷_, _++_}
-use Prim.Native.Nat.{ℕ, zero, suc, _<_}
+use Prim.Native.Nat.{ℕ, zero, suc, _+_, _<_}
 use native.Mathlib.Omega.{arith}
 use lib.Dec.{T, eqb, ltb, ltb→lt, T-not}
 use lib.ListN.{length, getD, replicate, length-replicate}
@@ -15,7 +15,7 @@ use Rattle.graph.specs.LearnerGraph.{isQuorum, isSafe, safeWithout, common, val
 use Rattle.graphfile.specs.File.{last, readMasks, readList, readLists, readRows, readGraph, contents, graphOf}
 use Rattle.graph.specs.Held.{triangle, pairList, listOf}
 use Rattle.graphfile.specs.Held.{holdAll, holdRows, heldOf}
-use Rattle.message.specs.Layout.{idLen, previousAt}
+use Rattle.message.specs.Layout.{ballotAt, proposalLen, previousAt, idLen, acceptorLen}
 use Rattle.message.specs.Writer.{acceptorBytes}
 use Rattle.message.specs.Order.{before, ascending}
 use Rattle.protocol.specs.Ids.{Id, sameId, samePrevious}
@@ -36,17 +36,18 @@ use Rattle.round.specs.Demands.{IdRule, Starts, SameCaughtIn}
 use Rattle.round.specs.declared.Opening.the-variants.{Opened}
 use Rattle.round_cases.specs.Cases.{four, thirds, G1, proposalFor, buffer, start}
 
--- ---- the id rule: 32 times one number, by which the messages below are told apart but for two: the second reply has the number of the first proposal
--- a proposal has its round number of 1 to 4
+-- ---- the id rule: 32 times one number. It tells the messages below apart but for two: the second reply has the number of the first proposal.
+-- the four proposals have 1 to 4, their round numbers
 unfoldable ofProposal : ℕ → ℕ
-ofProposal n = pick (eqb n 1) 1 (pick (eqb n 2) 2 (pick (eqb n 3) 3 4))
+ofProposal round = pick (eqb round 1) 1 (pick (eqb round 2) 2 (pick (eqb round 3) 3 4))
 
--- an acceptor message goes by its length, and where two replies have one length, by the message that they name
+-- the first reply has 5 and the vote 6; the second reply, which names 5, has 1, the third 7 and the fourth 8
 unfoldable ofVote : ℕ → ℕ → ℕ
-ofVote len named = pick (eqb len 43) 5 (pick (eqb len 75) 6 (pick (eqb len 107) (pick (eqb named 5) 1 7) 8))
+ofVote len named = pick (eqb len (acceptorLen false 1)) 5 (pick (eqb len (acceptorLen false 2)) 6 (pick (eqb len (acceptorLen true 2)) (pick (eqb named 5) 1 7) 8))
 
+-- a round number below 256 is the fourth byte of the ballot
 unfoldable number : List ℕ → ℕ
-number b = pick (eqb (length b) 17) (ofProposal (getD b 12 0)) (ofVote (length b) (getD b previousAt 0))
+number b = pick (eqb (length b) proposalLen) (ofProposal (getD b (ballotAt + 3) 0)) (ofVote (length b) (getD b previousAt 0))
 
 unfoldable H : List ℕ → Id
 H b = replicate idLen (number b)
@@ -84,7 +85,7 @@ either : (b : Bool) (x y : ℕ) → x < 256 → y < 256 → pick b x y < 256
 either true x y h k = h
 either false x y h k = k
 
-proposal-below : (n : ℕ) → ofProposal n < 256
+proposal-below : (round : ℕ) → ofProposal round < 256
 unfolding ofProposal
 proposal-below n =
     either (eqb n 1) 1 (pick (eqb n 2) 2 (pick (eqb n 3) 3 4)) (omega arith)
@@ -93,14 +94,16 @@ proposal-below n =
 vote-below : (len named : ℕ) → ofVote len named < 256
 unfolding ofVote
 vote-below len named =
-    either (eqb len 43) 5 (pick (eqb len 75) 6 (pick (eqb len 107) (pick (eqb named 5) 1 7) 8)) (omega arith)
-    (either (eqb len 75) 6 (pick (eqb len 107) (pick (eqb named 5) 1 7) 8) (omega arith)
-    (either (eqb len 107) (pick (eqb named 5) 1 7) 8 (either (eqb named 5) 1 7 (omega arith) (omega arith)) (omega arith)))
+    let two : pick (eqb named 5) 1 7 < 256 = either (eqb named 5) 1 7 (omega arith) (omega arith) in
+    let long : pick (eqb len (acceptorLen true 2)) (pick (eqb named 5) 1 7) 8 < 256 = either (eqb len (acceptorLen true 2)) (pick (eqb named 5) 1 7) 8 two (omega arith) in
+    either (eqb len (acceptorLen false 1)) 5 (pick (eqb len (acceptorLen false 2)) 6 (pick (eqb len (acceptorLen true 2)) (pick (eqb named 5) 1 7) 8)) (omega arith)
+    (either (eqb len (acceptorLen false 2)) 6 (pick (eqb len (acceptorLen true 2)) (pick (eqb named 5) 1 7) 8) (omega arith) long)
 
 number-below : (b : List ℕ) → number b < 256
 unfolding number
 number-below b =
-    either (eqb (length b) 17) (ofProposal (getD b 12 0)) (ofVote (length b) (getD b previousAt 0)) (proposal-below (getD b 12 0)) (vote-below (length b) (getD b previousAt 0))
+    either (eqb (length b) proposalLen) (ofProposal (getD b (ballotAt + 3) 0)) (ofVote (length b) (getD b previousAt 0))
+    (proposal-below (getD b (ballotAt + 3) 0)) (vote-below (length b) (getD b previousAt 0))
 
 repeated-below : (n i x : ℕ) → x < 256 → getD (replicate n x) i 0 < 256
 repeated-below zero i x h = omega arith

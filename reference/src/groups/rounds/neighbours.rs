@@ -22,7 +22,7 @@ pub struct Neighbours {
     pub forking: u64,
     /// Acceptors caught in a round, in one message of it or in several.
     pub acceptors: u64,
-    /// Acceptors caught in a message.
+    /// The same acceptors, counted anew in each message that catches them.
     pub caught: u64,
 }
 
