@@ -1,5 +1,5 @@
 //! Tells the linker where the static library of the C interface is: the folder
-//! in `HPAXOS_STATICLIB`, or the one that `rt staticlib capi` writes.
+//! in `HPAXOS_STATICLIB`, or the one that `rt staticlib hpaxos` writes.
 
 use std::env;
 use std::path::{Path, PathBuf};
@@ -16,7 +16,7 @@ fn main() {
     let folder = env::var_os("HPAXOS_STATICLIB")
         .map(PathBuf::from)
         .unwrap_or_else(|| Path::new(&package).join("../target/staticlib"));
-    println!("cargo:rerun-if-changed={}", folder.join("libcapi.a").display());
+    println!("cargo:rerun-if-changed={}", folder.join("libhpaxos.a").display());
     println!("cargo:rustc-link-search=native={}", folder.display());
-    println!("cargo:rustc-link-lib=static=capi");
+    println!("cargo:rustc-link-lib=static=hpaxos");
 }

@@ -223,7 +223,7 @@ GroundedIn H r = (b : List ℕ) (f : AcceptorMessage) → reading b ≡ OfAccept
     → T (not (lacks r (referenceIds b f))) → T (grounded (arriving H r b f))
 
 -- "Show this for every round that passes 17": of a `Typed` one, whose table has each reference that a count names. A round in bytes always is
--- (StruckInBytes of capi).
+-- (StruckInBytes of hpaxos).
 abbrev pub AlwaysGrounded : Type 0
 AlwaysGrounded = (H : List ℕ → Id) (r : Round) → Typed r → T (fits r) → GroundedIn H r
 

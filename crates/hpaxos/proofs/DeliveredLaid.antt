@@ -36,7 +36,7 @@ use Rattle.round.proofs.Lists.{refused-or-not}
 use Rattle.round.proofs.Sha256.{sha256IsIdRule}
 use Rattle.roundbytes.specs.Layout.{Laid}
 use Rattle.roundbytes.proofs.Typing.{be-eight}
-use Rattle.capi.proofs.Bounds as bounds
+use Rattle.hpaxos.proofs.Bounds as bounds
 
 -- ---- ballots of eight bytes
 abbrev Ballots : Round → Type 0

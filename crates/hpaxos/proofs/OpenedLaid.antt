@@ -26,7 +26,7 @@ use Rattle.round.specs.Demands.{Starts}
 use Rattle.round.proofs.JustOpened.{opens}
 use Rattle.roundbytes.specs.Layout as layout
 use Rattle.roundbytes.proofs.Typing.{be-two}
-use Rattle.capi.proofs.Bounds as bounds
+use Rattle.hpaxos.proofs.Bounds as bounds
 
 abbrev Masks : List ℕ → Type 0
 Masks l = bounds.Below (256 ^ 4) (omega arith) l

@@ -1,7 +1,7 @@
 use borrow.Author.Tests.{lt-ltb, le-ltb}
 use borrow.Author.Needs.{needs}
-use Rattle.capi.proofs.round_calls.seat_of.Statement.{statement}
-use Rattle.capi.proofs.round_calls.seat_of.Tie as tie
+use Rattle.hpaxos.proofs.round_calls.seat_of.Statement.{statement}
+use Rattle.hpaxos.proofs.round_calls.seat_of.Tie as tie
 
 returns : tie.Need-returns
 returns c = simp (lt-ltb 256 (c .before .args .acceptor) (c .if1 .taken))

@@ -24,9 +24,9 @@ use Rattle.roundbytes.proofs.RoundBytes.{round-reads-back}
 use Rattle.roundbytes.specs.Opening.{openedTo}
 use Rattle.engine.specs.Calls.{deliveredTo, deliverTo}
 use Rattle.engine.specs.Calls as call
-use Rattle.capi.specs.Round.{seat, openTo, bytesAfter, OfBytes, RoundInBytes, SameCaughtInBytes}
-use Rattle.capi.proofs.OpenedLaid.{opened-laid}
-use Rattle.capi.proofs.DeliveredLaid.{delivered-laid}
+use Rattle.hpaxos.specs.Round.{seat, openTo, bytesAfter, OfBytes, RoundInBytes, SameCaughtInBytes}
+use Rattle.hpaxos.proofs.OpenedLaid.{opened-laid}
+use Rattle.hpaxos.proofs.DeliveredLaid.{delivered-laid}
 
 -- a round put to the front of a buffer is read there, and the buffer is no shorter
 front-read : (r : Round) (buffer : List ℕ) → Laid r → roundIn (fronted (roundBytes r) buffer) ≡ r

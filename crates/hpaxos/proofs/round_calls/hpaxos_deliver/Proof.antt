@@ -1,10 +1,10 @@
 use mathlib.Core.Path.{ap, sym, _∙_}
 use native.Mathlib.Omega.{arith}
-use Rattle.capi.specs.Round.{deliverNumber}
-use Rattle.capi.proofs.Rounds.{reply-short}
+use Rattle.hpaxos.specs.Round.{deliverNumber}
+use Rattle.hpaxos.proofs.Rounds.{reply-short}
 use borrow.Author.Needs.{needs}
-use Rattle.capi.proofs.round_calls.hpaxos_deliver.Statement.{statement}
-use Rattle.capi.proofs.round_calls.hpaxos_deliver.Tie as tie
+use Rattle.hpaxos.proofs.round_calls.hpaxos_deliver.Statement.{statement}
+use Rattle.hpaxos.proofs.round_calls.hpaxos_deliver.Tie as tie
 
 deliver-requires : tie.Need-deliver-requires
 deliver-requires c κs = search needs

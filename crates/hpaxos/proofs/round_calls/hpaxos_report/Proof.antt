@@ -2,10 +2,10 @@ use mathlib.Core.Path.{ap, sym, _∙_}
 use lib.ListN.{length}
 use borrow.Author.Tests.{lt-ltb, le-ltb}
 use Rattle.round.specs.declared.Report.{Report}
-use Rattle.capi.specs.Round.{reportNumber, reportedTo}
+use Rattle.hpaxos.specs.Round.{reportNumber, reportedTo}
 use borrow.Author.Needs.{needs}
-use Rattle.capi.proofs.round_calls.hpaxos_report.Statement.{statement}
-use Rattle.capi.proofs.round_calls.hpaxos_report.Tie as tie
+use Rattle.hpaxos.proofs.round_calls.hpaxos_report.Statement.{statement}
+use Rattle.hpaxos.proofs.round_calls.hpaxos_report.Tie as tie
 
 number-requires : tie.Need-number-requires
 number-requires c κs = search needs

@@ -1,10 +1,10 @@
 use mathlib.Core.Path.{ap, sym, _∙_}
 use Prim.Native.Nat.{ℕ}
 use Rattle.engine.specs.Calls.{openAnswer, openTo}
-use Rattle.capi.specs.Round.{openNumber}
+use Rattle.hpaxos.specs.Round.{openNumber}
 use borrow.Author.Needs.{needs}
-use Rattle.capi.proofs.round_calls.hpaxos_open.Statement.{statement}
-use Rattle.capi.proofs.round_calls.hpaxos_open.Tie as tie
+use Rattle.hpaxos.proofs.round_calls.hpaxos_open.Statement.{statement}
+use Rattle.hpaxos.proofs.round_calls.hpaxos_open.Tie as tie
 
 seat-of-requires : tie.Need-seat-of-requires
 seat-of-requires c κs = search needs

@@ -11,7 +11,7 @@ ghost use Prim.Native.Nat.{_≤_};
 ghost use lib.ListN.{length};
 ghost use Rattle.message.specs.Writer.{fronted};
 ghost use Rattle.engine.specs.Calls.{deliverTo, replyTo};
-ghost use Rattle.capi.specs.Round.{seat, openAnswer, openTo, deliverAnswer, reportBytes, reportAnswer, reportTo};
+ghost use Rattle.hpaxos.specs.Round.{seat, openAnswer, openTo, deliverAnswer, reportBytes, reportAnswer, reportTo};
 
 // What is reported,
 const UNDECIDED: u8 = 0;

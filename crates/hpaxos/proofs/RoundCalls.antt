@@ -38,7 +38,7 @@ use Rattle.roundbytes.specs.Opening.{openedTo}
 use Rattle.roundbytes.proofs.Fields.{held-in, kind-at, count-at, reference-at}
 use Rattle.roundbytes.proofs.Typing.{read-typed}
 use Rattle.engine.specs.Calls.{openAnswer, openTo, deliverAnswer, deliveredTo, deliverTo, replyTo, reportAnswer}
-use Rattle.capi.specs.Round.{seat, openNumber, deliverNumber, reportNumber, reportedTo, reportLen, OpenRefused, DeliverRefused, ReportRefused, StruckInBytes, StruckNeverAnswered, WidePlaceIs17}
+use Rattle.hpaxos.specs.Round.{seat, openNumber, deliverNumber, reportNumber, reportedTo, reportLen, OpenRefused, DeliverRefused, ReportRefused, StruckInBytes, StruckNeverAnswered, WidePlaceIs17}
 
 -- ---- opening
 pub openRefused : OpenRefused

@@ -3,8 +3,8 @@ use mathlib.Core.List.{[], _∷_, _++_}
 use Rattle.base.specs.Bytes.{bytes}
 use Rattle.base.proofs.Bytes.{more}
 use borrow.Author.Needs.{needs}
-use Rattle.capi.proofs.round_calls.put_report.Statement.{statement}
-use Rattle.capi.proofs.round_calls.put_report.Tie as tie
+use Rattle.hpaxos.proofs.round_calls.put_report.Statement.{statement}
+use Rattle.hpaxos.proofs.round_calls.put_report.Tie as tie
 
 put8-requires : tie.Need-put8-requires
 put8-requires c κs = search needs
