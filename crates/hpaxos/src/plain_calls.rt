@@ -1,6 +1,6 @@
 // Digests, graph files and messages, as the crate plain answers them.
 ghost use mathlib.Core.Path.{_≡_};
-ghost use Rattle.message.specs.Writer.{proposalBytes, proposalOf, referenceAnswer, referenceTo, writtenTo, wrote};
+ghost use Rattle.message.specs.Writer.{meantRound, proposalBytes, proposalOf, referenceAnswer, referenceTo, writtenTo, wrote};
 ghost use Rattle.plain.specs.Digest.{digestAnswer, digestBuffer};
 ghost use Rattle.plain.specs.Graph.{checkGraph};
 ghost use Rattle.plain.specs.Message.{answerOf, fieldsTo, readAnswer};
@@ -47,7 +47,7 @@ pub extern "C" fn hpaxos_write_proposal(
     value: u32,
     message: &mut [u8],
 ) -> u32
-    ensures { λ r. ⌜ (r ≡ answerOf (wrote (proposalBytes (proposalOf house bay proposer round value)) (now (message .entry)))) × (now (message .exit) ≡ writtenTo (proposalBytes (proposalOf house bay proposer round value)) (now (message .entry))) ⌝ }
+    ensures { λ r. ⌜ (r ≡ answerOf (wrote (proposalBytes (proposalOf house bay proposer (meantRound round) value)) (now (message .entry)))) × (now (message .exit) ≡ writtenTo (proposalBytes (proposalOf house bay proposer (meantRound round) value)) (now (message .entry))) ⌝ }
 {
     plain::message_calls::write_proposal(house, bay, proposer, round, value, message)
 }

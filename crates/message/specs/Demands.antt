@@ -15,7 +15,7 @@ use Rattle.message.specs.Layout.{idLen, mostReferences, mostBytes, refer
 use Rattle.message.specs.Order.{ascending}
 use Rattle.message.specs.Reader.{reading, previousIn}
 use Rattle.message.specs.Outcomes.{Outcome}
-use Rattle.message.specs.Writer.{proposalBytes, proposalOf, hasPrevious, acceptorBytes, writtenRound}
+use Rattle.message.specs.Writer.{proposalBytes, proposalOf, hasPrevious, acceptorBytes}
 
 -- the ids of n references, one behind the other
 abbrev pub referencesIn : List ℕ → Bool → ℕ → List ℕ
@@ -29,10 +29,10 @@ ExactlyOneOutcome = (s : List ℕ) → Outcome s (reading s) × ((r : Reading) �
 abbrev pub ProposalReadsBack : Type 0
 ProposalReadsBack = (p : Proposal) → p .house < 2 ^ 16 → p .bay < 2 ^ 16 → p .ballot < 2 ^ 64 → reading (proposalBytes p) ≡ OfProposer p
 
--- Its ballot has the round number and the value that the writer was given, round number 0 as 1.
+-- Its ballot has the round number and the value that the writer was given.
 abbrev pub BallotReadsBack : Type 0
 BallotReadsBack = (house bay proposer round value : ℕ) → value < 2 ^ 32
-    → (roundOf (proposalOf house bay proposer round value .ballot) ≡ writtenRound round) × (valueOf (proposalOf house bay proposer round value .ballot) ≡ value)
+    → (roundOf (proposalOf house bay proposer round value .ballot) ≡ round) × (valueOf (proposalOf house bay proposer round value .ballot) ≡ value)
 
 -- An acceptor message that was written reads back to the same fields, and its ids stand at their places.
 pub record AcceptorFields (house bay : ℕ) (previous : List ℕ) (n : ℕ) (ids : List ℕ) : Type 0 where

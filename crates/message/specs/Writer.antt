@@ -25,13 +25,16 @@ headBytes len kind house bay signer = bytes 2 (len - outerLen) ++ (version ∷ k
 abbrev pub proposalBytes : Proposal → List ℕ
 proposalBytes p = headBytes proposalLen proposalKind (p .house) (p .bay) (p .proposer) ++ bytes 8 (p .ballot)
 
--- "Round number 0 stands for 1 and is written as 1."
-abbrev pub writtenRound : ℕ → ℕ
-writtenRound round = pick (eqb round 0) 1 round
+-- "Round number 0 stands for 1 and is written as 1.": the round number that a caller means. The writer below it writes what it is given.
+abbrev pub firstRound : ℕ
+firstRound = 1
 
--- the proposal that the writer's arguments mean
+abbrev pub meantRound : ℕ → ℕ
+meantRound round = pick (eqb round 0) firstRound round
+
+-- the proposal that the writer's arguments are
 abbrev pub proposalOf : ℕ → ℕ → ℕ → ℕ → ℕ → Proposal
-proposalOf house bay proposer round value = record { house = house; bay = bay; proposer = proposer; ballot = ballotOf (writtenRound round) value }
+proposalOf house bay proposer round value = record { house = house; bay = bay; proposer = proposer; ballot = ballotOf round value }
 
 -- the marker: an empty previous id is none
 abbrev pub hasPrevious : List ℕ → Bool

@@ -10,7 +10,6 @@ pub mod references;
 mod writer;
 
 use ballot::ballot_of;
-use ballot::written_round;
 use base::put_all;
 use base::put8;
 use base::put64;
@@ -132,7 +131,7 @@ pub fn copy_reference(bytes: &[u8], n: usize, id: &mut [u8]) -> Written
     }
 }
 
-// Writes a proposal. Round number 0 is written as 1.
+// Writes a proposal, with the round number as it is given; `ballot::meant_round` says what 0 stands for.
 pub fn write_proposal(
     house: u16,
     bay: u16,
@@ -147,7 +146,7 @@ pub fn write_proposal(
         return Written::NotWritten(Refusal::Argument);
     }
     write_head(buf, PROPOSAL_LEN, PROPOSAL, house, bay, proposer);
-    put64(buf, BALLOT_AT, ballot_of(written_round(round), value));
+    put64(buf, BALLOT_AT, ballot_of(round, value));
     Written::Bytes(PROPOSAL_LEN)
 }
 

@@ -4,6 +4,7 @@ use base::refusal::number;
 use message::Place;
 use message::Reading;
 use message::Written;
+use message::ballot::meant_round;
 use message::ballot::round_of;
 use message::ballot::value_of;
 ghost use Prim.Native.Nat.{_+_, _*_, _≤_, _<_};
@@ -100,7 +101,7 @@ fn wrote(w: Written) -> u32 {
     }
 }
 
-// P written; round number 0 as 1; a buffer too short; a byte behind the message.
+// P written; round number 0 as the 1 that it stands for; a buffer too short; a byte behind the message.
 fn writing(t0: Tally) -> Tally {
     let want = p();
     let mut buf = [9u8; 18];
@@ -115,7 +116,7 @@ fn writing(t0: Tally) -> Tally {
     let mut zero = [9u8; 17];
     t = tried(
         t,
-        wrote(message::write_proposal(1, 12, 0, 0, 70, &mut zero)),
+        wrote(message::write_proposal(1, 12, 0, meant_round(0), 70, &mut zero)),
         17,
     );
     t = tried(t, says(&zero, 1), 1);

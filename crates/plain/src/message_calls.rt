@@ -8,6 +8,7 @@ use base::refusal::number;
 use message::AcceptorMessage;
 use message::Reading;
 use message::Written;
+use message::ballot::meant_round;
 use message::layout::ACCEPTOR;
 use message::layout::ID_LEN;
 use message::layout::PREVIOUS_AT;
@@ -17,7 +18,7 @@ ghost use mathlib.Core.Path.{_≡_};
 ghost use Prim.Native.Nat.{_+_, _≤_};
 ghost use lib.ListN.{length};
 ghost use Rattle.message.specs.Outcomes.{IsAcceptor};
-ghost use Rattle.message.specs.Writer.{fronted, proposalBytes, proposalOf, referenceAnswer, referenceTo, writtenTo, wrote};
+ghost use Rattle.message.specs.Writer.{fronted, meantRound, proposalBytes, proposalOf, referenceAnswer, referenceTo, writtenTo, wrote};
 ghost use Rattle.message.specs.declared.Reading.the-variants.{OfAcceptor};
 ghost use Rattle.plain.specs.Message.{row, answerOf, fieldsOf, fieldsTo, readAnswer};
 
@@ -135,7 +136,7 @@ pub fn reference(bytes: &[u8], n: usize, id: &mut [u8]) -> u32
     answer(message::copy_reference(bytes, n, id))
 }
 
-// Writes a proposal to the front of a lent buffer.
+// Writes a proposal to the front of a lent buffer. Round number 0 stands for 1 and is written as 1.
 pub fn write_proposal(
     house: u16,
     bay: u16,
@@ -144,9 +145,9 @@ pub fn write_proposal(
     value: u32,
     message: &mut [u8],
 ) -> u32
-    ensures { λ r. ⌜ (r ≡ answerOf (wrote (proposalBytes (proposalOf house bay proposer round value)) (now (message .entry)))) × (now (message .exit) ≡ writtenTo (proposalBytes (proposalOf house bay proposer round value)) (now (message .entry))) ⌝ }
+    ensures { λ r. ⌜ (r ≡ answerOf (wrote (proposalBytes (proposalOf house bay proposer (meantRound round) value)) (now (message .entry)))) × (now (message .exit) ≡ writtenTo (proposalBytes (proposalOf house bay proposer (meantRound round) value)) (now (message .entry))) ⌝ }
 {
-    answer(message::write_proposal(house, bay, proposer, round, value, message))
+    answer(message::write_proposal(house, bay, proposer, meant_round(round), value, message))
 }
 
 // 0, or the number of the row that turns the call down.

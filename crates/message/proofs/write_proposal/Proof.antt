@@ -5,7 +5,8 @@ use borrow.Author.Tests.{lt-ltb, le-ltb}
 use Rattle.base.specs.Bytes.{bytes, putAt}
 use Rattle.base.proofs.Bytes.{more}
 use Rattle.base.specs.Ballots.{ballotOf}
-use Rattle.message.specs.Writer.{headBytes, writtenRound}
+use Rattle.message.specs.Layout.{proposalLen, proposalKind, ballotAt}
+use Rattle.message.specs.Writer.{headBytes}
 use borrow.Author.Needs.{needs}
 use Rattle.message.proofs.write_proposal.Statement.{statement}
 use Rattle.message.proofs.write_proposal.Tie as tie
@@ -14,14 +15,11 @@ returns : tie.Need-returns
 unfolding bytes
 returns c =
     let a = c .before .before .args in
-    let l = lt-ltb (length (a .buf .now)) 17 (c .if1 .taken) in
+    let l = lt-ltb (length (a .buf .now)) proposalLen (c .if1 .taken) in
     (simp l, simp l)
 
 write-head-requires : tie.Need-write-head-requires
 write-head-requires c κs = search needs
-
-written-round-requires : tie.Need-written-round-requires
-written-round-requires c κs = search needs
 
 ballot-of-requires : tie.Need-ballot-of-requires
 ballot-of-requires c κs = search needs
@@ -35,12 +33,12 @@ same-length c = search needs
 returns-2 : tie.Need-returns-2
 unfolding bytes
 returns-2 c =
-    let a = c .before .before .before .before .before .before .before .before .before .before .before .before .args in
+    let a = c .before .before .before .before .before .before .before .before .before .before .before .args in
     let b = a .buf .now in
-    let l = le-ltb (length b) 17 (c .before .before .before .before .before .before .before .before .before .before .if1 .left) in
-    let x : c .before .before .before .ballot-of .result ≡ ballotOf (writtenRound (a .round)) (a .value) = c .before .before .before .ballot-of .ensures ∙ ap (λ (y : ℕ). ballotOf y (a .value)) (c .before .before .before .before .written-round .ensures) in
-    let w = c .before .before .put64 .ensures ∙ ap (λ (y : ℕ). putAt (c .before .before .before .before .before .before .before .before .write-head .last .0) 9 (bytes 8 y)) x in
-    let m = more (headBytes 17 1 (a .house) (a .bay) (a .proposer)) (bytes 8 (ballotOf (writtenRound (a .round)) (a .value))) b (c .before .before .before .before .before .before .before .before .write-head .last .0) (c .before .before .put64 .last .0) (c .before .before .before .before .before .before .before .before .write-head .ensures) w in
+    let head = c .before .before .before .before .before .before .before .write-head in
+    let l = le-ltb (length b) proposalLen (c .before .before .before .before .before .before .before .before .before .if1 .left) in
+    let w = c .before .before .put64 .ensures ∙ ap (λ (y : ℕ). putAt (head .last .0) ballotAt (bytes 8 y)) (c .before .before .before .ballot-of .ensures) in
+    let m = more (headBytes proposalLen proposalKind (a .house) (a .bay) (a .proposer)) (bytes 8 (ballotOf (a .round) (a .value))) b (head .last .0) (c .before .before .put64 .last .0) (head .ensures) w in
     (simp l, m ∙ simp l)
 
 pub write-proposal-spec : {M : Type 1} → statement M
@@ -49,7 +47,6 @@ write-proposal-spec =
     (tie.spec
     returns
     write-head-requires
-    written-round-requires
     ballot-of-requires
     put64-requires
     same-length
