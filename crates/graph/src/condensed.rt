@@ -106,6 +106,7 @@ fn condensed_row<'a>(
     true
 }
 
+// Row 7: whether the graph is condensed.
 pub fn is_condensed<'a>(counts: &'a [u8], masks: &'a [Mask], acceptors: u8, learners: usize) -> bool
     requires { ⌜ (learners ≤ maxLearners) × Sized (now counts) (now masks) ⌝ }
     ensures { λ r. ⌜ r ≡ condensed (heldGraph acceptors learners (now (counts .entry)) (now (masks .entry))) ⌝ }

@@ -4,9 +4,9 @@ use base::refusal::number;
 use condensed::is_condensed;
 use valid::is_valid;
 
-mod condensed;
+pub mod condensed;
 pub mod lists;
-mod valid;
+pub mod valid;
 
 ghost use mathlib.Core.Path.{_≡_};
 ghost use Prim.Native.Nat.{_≤_};
@@ -52,8 +52,8 @@ pub fn answer_number(a: Answer) -> u32
     }
 }
 
-// Rows 6 and 7 of the lists of a graph. It asks for at most MAX_LEARNERS learners and for arrays of a graph's length, as `lists` does: whoever
-// calls it has put the lists of a file into such arrays, and has no answer to give a second test.
+// Rows 6 and 7 of the lists of a graph: `valid::is_valid`, then `condensed::is_condensed`. All three ask for at most MAX_LEARNERS learners and for
+// arrays of a graph's length, as `lists` does: whoever calls them has put the lists of a file into such arrays, and has no answer to give a second test.
 pub fn graph_answer<'a>(
     counts: &'a [u8],
     masks: &'a [Mask],

@@ -76,6 +76,7 @@ fn valid_row<'a>(
     true
 }
 
+// Row 6: whether the graph is valid.
 pub fn is_valid<'a>(counts: &'a [u8], masks: &'a [Mask], acceptors: u8, learners: usize) -> bool
     requires { ⌜ (learners ≤ maxLearners) × Sized (now counts) (now masks) ⌝ }
     ensures { λ r. ⌜ r ≡ valid (heldGraph acceptors learners (now (counts .entry)) (now (masks .entry))) ⌝ }

@@ -8,3 +8,5 @@ pub mod Accepted
 pub mod Whole
 -- Every listed quorum of an accepted file names an acceptor
 pub mod Peopled
+-- The writer of graph files
+pub mod Putting

@@ -2,5 +2,7 @@
 pub mod File
 -- How its lists are held in memory
 pub mod Held
+-- The bytes of the file of a graph
+pub mod Writer
 -- What holds of an accepted file
 pub mod Theorems

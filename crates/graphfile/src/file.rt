@@ -1,4 +1,5 @@
 // The graph file, read field by field from the front, each list put into its place as it is read.
+use crate::LISTS_AT;
 use crate::MASK_BYTES;
 use base::read16;
 use base::refusal::Refusal;
@@ -201,7 +202,7 @@ fn read_rows(
     Field::Is(here)
 }
 
-// All lists, from byte 5 on, and nothing behind them.
+// All lists, and nothing behind them.
 pub fn read_lists(
     s: &[u8],
     acceptors: u8,
@@ -212,7 +213,7 @@ pub fn read_lists(
     requires { ⌜ (length (now s) ≤ 65537) × ((5 ≤ length (now s)) × ((acceptors ≤ maxAcceptors) × ((learners ≤ maxLearners) × Sized (now counts) (now masks)))) ⌝ }
     ensures { λ r. ⌜ HeldAfter (readGraph (now (s .entry)) acceptors learners 5) (heldIn (record { counts = now (counts .entry); masks = now (masks .entry) })) r (record { counts = now (counts .exit); masks = now (masks .exit) }) ⌝ }
 {
-    let at = match read_quorums(s, 5, acceptors, learners, counts, masks) {
+    let at = match read_quorums(s, LISTS_AT, acceptors, learners, counts, masks) {
         Field::Is(at) => at,
         Field::Refused(r) => return Field::Refused(r),
     };

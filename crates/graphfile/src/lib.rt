@@ -1,4 +1,5 @@
-// The graph file of a site, read and checked: rows 1 to 5 on the way through its bytes, and rows 6 and 7 of the graph that it gives.
+// The graph file of a site, read, checked and written: rows 1 to 5 on the way through its bytes, and rows 6 and 7 of the graph that it gives.
+use base::put_all;
 use base::read16;
 use base::refusal::Refusal;
 use base::size;
@@ -10,10 +11,15 @@ use graph::Graph;
 use graph::LISTS;
 use graph::MAX_ACCEPTORS;
 use graph::MAX_LEARNERS;
+use graph::MAX_MASKS;
 use graph::PLACES;
 use graph::graph_answer;
+use writer::counts_fit;
+use writer::masks_fit;
+use writer::put_file;
 
 mod file;
+mod writer;
 
 ghost use mathlib.Core.Path.{_≡_};
 ghost use Prim.Native.Nat.{_≤_};
@@ -23,14 +29,35 @@ ghost use Rattle.graph.specs.Answers.{graphAnswer};
 ghost use Rattle.graph.specs.Held.{viewOf};
 ghost use Rattle.graphfile.specs.File.{contents, answerOf, readGraph};
 ghost use Rattle.graphfile.specs.Held.{refusedReading, heldReading, answeredReading, readingOf, HeadOf};
+ghost use Rattle.graphfile.specs.Writer.{writeAnswer, writeTo};
 
 pub const VERSION: u8 = 1;
 
 pub const MASK_BYTES: usize = 2;
 
+// The bytes of a file: how many follow, the version, how many acceptors and learners there are, and the lists.
+const OUTER_LEN: usize = 2;
+
+const VERSION_AT: usize = OUTER_LEN;
+
+const ACCEPTORS_AT: usize = VERSION_AT + 1;
+
+const LEARNERS_AT: usize = ACCEPTORS_AT + 1;
+
+const LISTS_AT: usize = LEARNERS_AT + 1;
+
+// The longest file: every list has all its masks.
+pub const MAX_LEN: usize = LISTS_AT + (1 + MASK_BYTES * MAX_MASKS) * LISTS;
+
 pub struct Reading {
     pub answer: Answer,
     pub graph: Graph,
+}
+
+// How many bytes were written to the front of a lent buffer.
+pub enum Written {
+    Bytes(usize),
+    NotWritten(Refusal),
 }
 
 // A file that is turned down gives a graph of zeros.
@@ -53,28 +80,28 @@ fn refused(r: Refusal) -> Reading
 fn head(file: &[u8]) -> Answer
     ensures { λ a. ⌜ HeadOf (now (file .entry)) a ⌝ }
 {
-    if file.len() < 2 {
+    if file.len() < OUTER_LEN {
         return Answer::Refused(Refusal::Length);
     }
-    if file.len() != 2 + read16(file, 0) {
+    if file.len() != OUTER_LEN + read16(file, 0) {
         return Answer::Refused(Refusal::Length);
     }
-    if file.len() < 3 {
+    if file.len() <= VERSION_AT {
         return Answer::Refused(Refusal::Length);
     }
-    if file[2] != VERSION {
+    if file[VERSION_AT] != VERSION {
         return Answer::Refused(Refusal::Version);
     }
-    if let Field::Refused(r) = read_count(file, 3, 1, MAX_ACCEPTORS) {
+    if let Field::Refused(r) = read_count(file, ACCEPTORS_AT, 1, MAX_ACCEPTORS) {
         return Answer::Refused(r);
     }
-    if let Field::Refused(r) = read_count(file, 4, 1, MAX_LEARNERS) {
+    if let Field::Refused(r) = read_count(file, LEARNERS_AT, 1, MAX_LEARNERS) {
         return Answer::Refused(r);
     }
     Answer::Accepted
 }
 
-// The lists, from byte 5 on, put into memory.
+// The lists, put into memory.
 fn held(file: &[u8], acceptors: u8, learners: u8) -> Reading
     requires { ⌜ (length (now file) ≤ 65537) × ((5 ≤ length (now file)) × ((acceptors ≤ maxAcceptors) × (learners ≤ maxLearners))) ⌝ }
     ensures { λ x. ⌜ x ≡ heldReading (readGraph (now (file .entry)) acceptors learners 5) ⌝ }
@@ -102,7 +129,7 @@ pub fn read_contents(file: &[u8]) -> Reading
     if let Answer::Refused(r) = head(file) {
         return refused(r);
     }
-    held(file, file[3], file[4])
+    held(file, file[ACCEPTORS_AT], file[LEARNERS_AT])
 }
 
 // Rows 6 and 7: the graph, or why it is turned down.
@@ -142,4 +169,32 @@ pub fn check(file: &[u8]) -> Answer
     let r = read(file);
     let answer = r.answer;
     answer
+}
+
+// Writes the file of a graph to the front of a lent buffer. 17: a graph that no file can say, or a buffer too short; no byte is written then.
+pub fn write(graph: Graph, buf: &mut [u8]) -> Written
+    ensures { λ r. ⌜ (r ≡ writeAnswer graph (now (buf .entry))) × (now (buf .exit) ≡ writeTo graph (now (buf .entry))) ⌝ }
+{
+    if MAX_LEARNERS < size(graph.learners) {
+        return Written::NotWritten(Refusal::Argument);
+    }
+    if !counts_fit(&graph.counts) {
+        return Written::NotWritten(Refusal::Argument);
+    }
+    if !masks_fit(&graph.masks) {
+        return Written::NotWritten(Refusal::Argument);
+    }
+    let mut file = [0u8; MAX_LEN];
+    let len = put_file(
+        graph.acceptors,
+        graph.learners,
+        &graph.counts,
+        &graph.masks,
+        &mut file,
+    );
+    if buf.len() < len {
+        return Written::NotWritten(Refusal::Argument);
+    }
+    put_all(buf, 0, &file[0..len]);
+    Written::Bytes(len)
 }

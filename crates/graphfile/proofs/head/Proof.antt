@@ -29,7 +29,7 @@ returns-3 : tie.Need-returns-3
 returns-3 c =
     let s = c .before .before .before .before .before .args .file .now in
     let w = c .before .before .read16 .ensures .0 in
-    version-absent s (omega arith) (c .if3 .taken)
+    version-absent s (omega arith) (omega (arith, c .if3 .taken))
 
 shared-slice-read-if4 : tie.Need-shared-slice-read-if4
 shared-slice-read-if4 c = search needs
@@ -38,7 +38,7 @@ returns-4 : tie.Need-returns-4
 returns-4 c =
     let s = c .before .before .before .before .before .before .before .args .file .now in
     let w = c .before .before .before .before .read16 .ensures .0 in
-    version-wrong s (omega arith) (c .before .before .if3 .left) (c .if4 .taken)
+    version-wrong s (omega arith) (omega (arith, c .before .before .if3 .left)) (c .if4 .taken)
 
 read-count-requires : tie.Need-read-count-requires
 read-count-requires c κs = search needs
@@ -50,7 +50,7 @@ returns-5 : tie.Need-returns-5
 returns-5 c =
     let s = c .before .before .before .before .before .before .before .before .before .before .before .args .file .now in
     let w = c .before .before .before .before .before .before .before .before .read16 .ensures .0 in
-    acceptors-no s (omega arith) (c .before .before .before .before .before .before .if3 .left) (c .before .before .before .before .if4 .left) (c .before .r .given .0 .0) (sym (c .before .before .before .read-count .ensures) ∙ c .before .r .given .1)
+    acceptors-no s (omega arith) (omega (arith, c .before .before .before .before .before .before .if3 .left)) (c .before .before .before .before .if4 .left) (c .before .r .given .0 .0) (sym (c .before .before .before .read-count .ensures) ∙ c .before .r .given .1)
 
 enum-told : tie.Need-enum-told
 enum-told c = search needs
@@ -65,7 +65,7 @@ returns-6 : tie.Need-returns-6
 returns-6 c =
     let s = c .before .before .before .before .before .before .before .before .before .before .before .before .before .before .args .file .now in
     let w = c .before .before .before .before .before .before .before .before .before .before .before .read16 .ensures .0 in
-    learners-no s (omega arith) (c .before .before .before .before .before .before .before .before .before .if3 .left) (c .before .before .before .before .before .before .before .if4 .left) (c .before .before .before .before .enum-told .given .0 .0) (sym (c .before .before .before .before .before .before .read-count .ensures) ∙ c .before .before .before .before .enum-told .given .1)
+    learners-no s (omega arith) (omega (arith, c .before .before .before .before .before .before .before .before .before .if3 .left)) (c .before .before .before .before .before .before .before .if4 .left) (c .before .before .before .before .enum-told .given .0 .0) (sym (c .before .before .before .before .before .before .read-count .ensures) ∙ c .before .before .before .before .enum-told .given .1)
     (c .before .r2 .given .0 .0) (sym (c .before .before .before .read-count2 .ensures) ∙ c .before .r2 .given .1)
 
 enum-told-2 : tie.Need-enum-told-2
@@ -82,7 +82,7 @@ returns-7 c =
       omega arith,
       omega arith,
       omega arith,
-      lists-behind s (omega arith) (c .before .before .before .before .before .before .before .before .if3 .left) (c .before .before .before .before .before .before .if4 .left) (c .before .before .before .enum-told .given .0 .0) (sym (c .before .before .before .before .before .read-count .ensures) ∙ c .before .before .before .enum-told .given .1)
+      lists-behind s (omega arith) (omega (arith, c .before .before .before .before .before .before .before .before .if3 .left)) (c .before .before .before .before .before .before .if4 .left) (c .before .before .before .enum-told .given .0 .0) (sym (c .before .before .before .before .before .read-count .ensures) ∙ c .before .before .before .enum-told .given .1)
           (c .enum-told2 .given .0 .0) (sym (c .before .before .read-count2 .ensures) ∙ c .enum-told2 .given .1),
     )
 
