@@ -10,3 +10,5 @@ pub mod Whole
 pub mod Peopled
 -- The writer of graph files
 pub mod Putting
+-- What is written is read back
+pub mod ReadBack

@@ -29,7 +29,7 @@ Names n q = (p : ℕ) × (p < n) × T (has q p)
 abbrev AllName : ℕ → List ℕ → Type 0
 AllName n l = (q : ℕ) → q ∈ l → Names n q
 
-passed-mask : (n : ℕ) (e : List ℕ) (m : ℕ) → maskAnswer n e m ≡ Accepted → (m ≡ 0 → ⊥) × (m < 2 ^ n)
+pub passed-mask : (n : ℕ) (e : List ℕ) (m : ℕ) → maskAnswer n e m ≡ Accepted → (m ≡ 0 → ⊥) × (m < 2 ^ n)
 passed-mask n e m h = by (eqb m 0) (leb (2 ^ n) m) refl refl h
   where
     by : (z u : Bool) → eqb m 0 ≡ z → leb (2 ^ n) m ≡ u

@@ -7,7 +7,6 @@ use native.Mathlib.Numerals.{add-one}
 use native.Mathlib.Nat.{add-zero}
 use native.Mathlib.Omega.{arith}
 use borrow.Author.Tests.{ltb-true}
-use lib.Dec.{ltb}
 use lib.ListN.{length, getD, take, drop, length-append, length-drop, length-take, drop-of-length-le}
 use lib.Seq.{slice, slice-cons, slice-empty, length-slice, drop-cons, take-at, drop-at, length-take-le}
 use Rattle.base.specs.Tests.{all}
@@ -16,7 +15,7 @@ use Rattle.base.proofs.Bytes.{bytes-length, putAt-none, putAt-more}
 use Rattle.graph.specs.Limits.{version, maxLearners, maxMasks, maskBytes, lists}
 use Rattle.graph.specs.Held.{heldGraph, listOf, pairList, triangle, Sized}
 use Rattle.graph.proofs.Held.{list-is}
-use Rattle.graphfile.specs.File.{Contents}
+use Rattle.graphfile.specs.File.{outerLen, versionAt, acceptorsAt, learnersAt, listsAt, Contents}
 use Rattle.graphfile.specs.Writer.{masksBytes, listBytes, listsBytes, rowsBytes, bodyBytes, fileBytes, listed, rowsFrom, contentsOf, fitsMask, MasksFit, PutIn}
 use Rattle.graphfile.proofs.View.{triangle-up}
 
@@ -228,17 +227,17 @@ put-front b h v k e m =
 
 -- the longest file: every list has all its masks
 abbrev pub fileMost : ℕ
-fileMost = 5 + listMost * lists
+fileMost = listsAt + listMost * lists
 
 module _ (f : Contents) where
-  pub file-length : length (fileBytes f) ≡ 2 + length (bodyBytes f)
+  pub file-length : length (fileBytes f) ≡ outerLen + length (bodyBytes f)
   unfolding fileBytes
-  file-length = length-append (bytes 2 (length (bodyBytes f))) (bodyBytes f) ∙ omega (arith, bytes-length 2 (length (bodyBytes f)))
+  file-length = length-append (bytes outerLen (length (bodyBytes f))) (bodyBytes f) ∙ omega (arith, bytes-length outerLen (length (bodyBytes f)))
 
   pub body-length : length (bodyBytes f) ≡ 3 + length (listsBytes (f .quorums)) + length (rowsBytes (f .rows))
   body-length = omega (arith, length-append (listsBytes (f .quorums)) (rowsBytes (f .rows)))
 
-  pub file-least : 5 ≤ length (fileBytes f)
+  pub file-least : listsAt ≤ length (fileBytes f)
   file-least = omega (arith, file-length, body-length)
 
 pub file-most : (n l : ℕ) (counts masks : List ℕ) → l ≤ maxLearners → length (fileBytes (contentsOf (heldGraph n l counts masks))) ≤ fileMost
@@ -255,51 +254,51 @@ file-most n l counts masks h =
 
 -- the pieces in front of the lists, the lists, and then the count of all these bytes
 module _ (f : Contents) (b : List ℕ) (m : 0 + length (fileBytes f) ≤ length b) where
-  body-room : 2 + length (bodyBytes f) ≤ length b
+  body-room : outerLen + length (bodyBytes f) ≤ length b
   body-room = let e = file-length f in omega arith
 
   pub record Headed (x : List ℕ) : Type 0 where
-    pub putting : Putting (bodyBytes f) (listsBytes (f .quorums) ++ rowsBytes (f .rows)) 2 5 b x
+    pub putting : Putting (bodyBytes f) (listsBytes (f .quorums) ++ rowsBytes (f .rows)) outerLen listsAt b x
 
-  pub headed : (x y z : List ℕ) → x ≡ putAt b 2 (version ∷ []) → y ≡ putAt x 3 (f .acceptors ∷ []) → z ≡ putAt y 4 (f .learners ∷ []) → Headed z
+  pub headed : (x y z : List ℕ) → x ≡ putAt b versionAt (version ∷ []) → y ≡ putAt x acceptorsAt (f .acceptors ∷ []) → z ≡ putAt y learnersAt (f .learners ∷ []) → Headed z
   headed x y z p q r =
       let w = bodyBytes f in
       let t = listsBytes (f .quorums) ++ rowsBytes (f .rows) in
-      let P₁ = putting-more w w 2 2 b b (putting-none w 2 b) (version ∷ []) (f .acceptors ∷ f .learners ∷ t) x 3 body-room refl (record { behind = refl; held = p }) in
-      let P₂ = putting-more w (f .acceptors ∷ f .learners ∷ t) 2 3 b x P₁ (f .acceptors ∷ []) (f .learners ∷ t) y 4 body-room refl (record { behind = refl; held = q }) in
-      record { putting = putting-more w (f .learners ∷ t) 2 4 b y P₂ (f .learners ∷ []) t z 5 body-room refl (record { behind = refl; held = r }) }
+      let P₁ = putting-more w w outerLen outerLen b b (putting-none w outerLen b) (version ∷ []) (f .acceptors ∷ f .learners ∷ t) x acceptorsAt body-room refl (record { behind = refl; held = p }) in
+      let P₂ = putting-more w (f .acceptors ∷ f .learners ∷ t) outerLen acceptorsAt b x P₁ (f .acceptors ∷ []) (f .learners ∷ t) y learnersAt body-room refl (record { behind = refl; held = q }) in
+      record { putting = putting-more w (f .learners ∷ t) outerLen learnersAt b y P₂ (f .learners ∷ []) t z listsAt body-room refl (record { behind = refl; held = r }) }
 
   module _ (x : List ℕ) (H : Headed x) where
-    pub quorums-room : 5 + length (listsBytes (f .quorums)) ≤ length b
-    quorums-room = putting-piece (bodyBytes f) (listsBytes (f .quorums) ++ rowsBytes (f .rows)) 2 5 b x (H .putting) (listsBytes (f .quorums)) (rowsBytes (f .rows)) body-room refl
+    pub quorums-room : listsAt + length (listsBytes (f .quorums)) ≤ length b
+    quorums-room = putting-piece (bodyBytes f) (listsBytes (f .quorums) ++ rowsBytes (f .rows)) outerLen listsAt b x (H .putting) (listsBytes (f .quorums)) (rowsBytes (f .rows)) body-room refl
 
-    module _ (at : ℕ) (y : List ℕ) (q : PutIn (listsBytes (f .quorums)) 5 at x y) where
-      rest : Putting (bodyBytes f) (rowsBytes (f .rows)) 2 at b y
-      rest = putting-more (bodyBytes f) (listsBytes (f .quorums) ++ rowsBytes (f .rows)) 2 5 b x (H .putting) (listsBytes (f .quorums)) (rowsBytes (f .rows)) y at body-room refl q
+    module _ (at : ℕ) (y : List ℕ) (q : PutIn (listsBytes (f .quorums)) listsAt at x y) where
+      rest : Putting (bodyBytes f) (rowsBytes (f .rows)) outerLen at b y
+      rest = putting-more (bodyBytes f) (listsBytes (f .quorums) ++ rowsBytes (f .rows)) outerLen listsAt b x (H .putting) (listsBytes (f .quorums)) (rowsBytes (f .rows)) y at body-room refl q
 
       pub rows-room : at + length (rowsBytes (f .rows)) ≤ length b
-      rows-room = putting-room (bodyBytes f) (rowsBytes (f .rows)) 2 at b y rest body-room
+      rows-room = putting-room (bodyBytes f) (rowsBytes (f .rows)) outerLen at b y rest body-room
 
       module _ (end : ℕ) (z : List ℕ) (r : PutIn (rowsBytes (f .rows)) at end y z) where
-        body : PutIn (bodyBytes f) 2 end b z
+        body : PutIn (bodyBytes f) outerLen end b z
         body =
             let t = rowsBytes (f .rows) in
-            putting-all (bodyBytes f) [] 2 end b z (putting-more (bodyBytes f) t 2 at b y rest t [] z end body-room (sym (append-nil t)) r) refl
+            putting-all (bodyBytes f) [] outerLen end b z (putting-more (bodyBytes f) t outerLen at b y rest t [] z end body-room (sym (append-nil t)) r) refl
 
-        pub body-end : end ≡ 2 + length (bodyBytes f)
+        pub body-end : end ≡ outerLen + length (bodyBytes f)
         body-end = body .behind
 
-        pub file-put : (u : List ℕ) → u ≡ putAt z 0 (bytes 2 (end - 2)) → PutIn (fileBytes f) 0 end b u
+        pub file-put : (u : List ℕ) → u ≡ putAt z 0 (bytes outerLen (end - outerLen)) → PutIn (fileBytes f) 0 end b u
         unfolding fileBytes
         file-put u e =
             let n = body-end in
             let l = file-length f in
-            let k : end - 2 ≡ length (bodyBytes f) = omega arith in
-            let h = bytes 2 (length (bodyBytes f)) in
+            let k : end - outerLen ≡ length (bodyBytes f) = omega arith in
+            let h = bytes outerLen (length (bodyBytes f)) in
             let c = body-room in
             record {
               behind = omega arith;
-              held = e ∙ ap₂ (λ (p : List ℕ) (j : ℕ). putAt p 0 (bytes 2 j)) (body .held) k ∙ put-front b h (bodyBytes f) 2 (bytes-length 2 (length (bodyBytes f))) (omega arith);
+              held = e ∙ ap₂ (λ (p : List ℕ) (j : ℕ). putAt p 0 (bytes 2 j)) (body .held) k ∙ put-front b h (bodyBytes f) outerLen (bytes-length outerLen (length (bodyBytes f))) (omega arith);
             }
 
 -- ---- the file as it stands in front of what it was put into

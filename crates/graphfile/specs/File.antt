@@ -16,6 +16,24 @@ use Rattle.graph.specs.Limits.{version, maxAcceptors, maxLearners, maxMasks, ma
 use Rattle.graph.specs.LearnerGraph.{LearnerGraph}
 use Rattle.graph.specs.Answers.{graphAnswer}
 
+-- ---- where the fields in front of the lists stand
+-- "Two bytes: count of the bytes after them."
+abbrev pub outerLen : ℕ
+outerLen = 2
+
+-- "Version 1. Acceptors n .. Learners l .."
+abbrev pub versionAt : ℕ
+versionAt = outerLen
+
+abbrev pub acceptorsAt : ℕ
+acceptorsAt = versionAt + 1
+
+abbrev pub learnersAt : ℕ
+learnersAt = acceptorsAt + 1
+
+abbrev pub listsAt : ℕ
+listsAt = learnersAt + 1
+
 -- What reading gives: what was read and the place behind it, or why the file is turned down.
 pub data Got (A : Type 0) : Type 0 where
   got : A → ℕ → Got A
@@ -91,8 +109,8 @@ readGraph s n l at =
 -- The whole file: "Two bytes: count of the bytes after them. Version 1. Acceptors n, 1 to 16. Learners l, 1 to 8."
 unfoldable pub contents : List ℕ → Got Contents
 contents s =
-    pick (eqb (length s) (2 + be 2 s 0))
-    (andThen (readVersion s 2) (λ _ at.
+    pick (eqb (length s) (outerLen + be outerLen s 0))
+    (andThen (readVersion s versionAt) (λ _ at.
     andThen (readCount s 1 maxAcceptors at) (λ n at′.
     andThen (readCount s 1 maxLearners at′) (λ l at″. readGraph s n l at″))))
     (no Length)

@@ -13,7 +13,7 @@ use Rattle.graph.specs.Answers.{graphAnswer}
 use Rattle.graphfile.specs.declared.file.Field.{Field}
 use Rattle.graphfile.specs.declared.file.Field.the-variants as Field
 use Rattle.graphfile.specs.declared.Reading.{Reading}
-use Rattle.graphfile.specs.File.{Got, got, no, Contents, contents, readGraph, graphOf}
+use Rattle.graphfile.specs.File.{acceptorsAt, learnersAt, listsAt, Got, got, no, Contents, contents, readGraph, graphOf}
 
 -- ---- how they are put in
 pub record Held : Type 0 where
@@ -77,8 +77,8 @@ heldReading (no r) = refusedReading (Refused r)
 -- what stands before the lists is in order, and the file is what the lists behind it are; or why the file is turned down there
 abbrev pub HeadOf : List ℕ → Answer → Type 0
 HeadOf s Accepted =
-    (length s ≤ 65537) × (5 ≤ length s) × (getD s 3 0 ≤ maxAcceptors) × (getD s 4 0 ≤ maxLearners)
-    × (contents s ≡ readGraph s (getD s 3 0) (getD s 4 0) 5)
+    (length s ≤ 65537) × (listsAt ≤ length s) × (getD s acceptorsAt 0 ≤ maxAcceptors) × (getD s learnersAt 0 ≤ maxLearners)
+    × (contents s ≡ readGraph s (getD s acceptorsAt 0) (getD s learnersAt 0) listsAt)
 HeadOf s (Refused r) = contents s ≡ no r
 
 -- what was read

@@ -1,15 +1,19 @@
--- What holds of an accepted graph file, as named statements; proofs/ proves each under the same name.
+-- What holds of an accepted graph file and of one that was written, as named statements; proofs/ proves each under the same name.
 use mathlib.Core.Path.{_≡_}
 use mathlib.Core.List.{List}
-use Prim.Native.Nat.{ℕ, _<_}
+use Prim.Native.Nat.{ℕ, _≤_, _<_}
 use lib.Dec.{T}
-use lib.ListN.{getD}
+use lib.ListN.{length, getD, take}
 use Rattle.graph.specs.declared.Answer.the-variants.{Accepted}
+use Rattle.graph.specs.declared.Graph.{Graph}
+use Rattle.graph.specs.Limits.{maxAcceptors, maxLearners, maxMasks}
 use Rattle.graph.specs.LearnerGraph.{LearnerGraph, valid, condensed}
 use Rattle.graph.specs.Held.{viewOf}
 use Rattle.graph.specs.Theorems.{Undirected, SameGraph}
-use Rattle.graphfile.specs.File.{Contents, contents, got, graphOf, answerOf}
-use Rattle.graphfile.specs.Held.{readingOf}
+use Rattle.graphfile.specs.declared.Reading.{Reading}
+use Rattle.graphfile.specs.File.{Contents, contents, got, maskAnswer, graphOf, answerOf}
+use Rattle.graphfile.specs.Held.{heldReading, readingOf}
+use Rattle.graphfile.specs.Writer.{graphFile}
 
 -- The graph in memory lists the same masks in the same order as the file.
 abbrev pub HeldSaysTheSame : Type 0
@@ -29,3 +33,27 @@ abbrev pub FilesDiffer : Type 0
 FilesDiffer =
     (s t : List ℕ) → ((i : ℕ) → getD s i 0 < 256) → ((i : ℕ) → getD t i 0 < 256) → answerOf s ≡ Accepted → answerOf t ≡ Accepted
     → SameGraph (viewOf (readingOf s .graph)) (viewOf (readingOf t .graph)) → s ≡ t
+
+-- ---- what is written is read back
+-- What rows 3 to 5 ask of a list: as many masks as it may have, and each of them accepted behind those in front of it.
+pub record ListInOrder (n low : ℕ) (l : List ℕ) : Type 0 where
+  pub enough : low ≤ length l
+  pub most : length l ≤ maxMasks
+  pub masks : (i : ℕ) → i < length l → maskAnswer n (take i l) (getD l i 0) ≡ Accepted
+
+-- What they ask of a graph.
+pub record InOrder (G : LearnerGraph) : Type 0 where
+  pub someAcceptors : 1 ≤ G .acceptors
+  pub mostAcceptors : G .acceptors ≤ maxAcceptors
+  pub someLearners : 1 ≤ G .learners
+  pub mostLearners : G .learners ≤ maxLearners
+  pub quorums : (a : ℕ) → a < G .learners → ListInOrder (G .acceptors) 1 (G .quorums a)
+  pub safes : (a b : ℕ) → a < G .learners → b < G .learners → ListInOrder (G .acceptors) 0 (G .safes a b)
+
+pub record ReadBack (g : Graph) (r : Reading) : Type 0 where
+  pub accepted : r .answer ≡ Accepted
+  pub same : SameGraph (viewOf (r .graph)) (viewOf g)
+
+-- The file of a graph in order is read, by rows 1 to 5, as the same graph.
+abbrev pub GraphReadsBack : Type 0
+GraphReadsBack = (g : Graph) → InOrder (viewOf g) → ReadBack g (heldReading (contents (graphFile g)))

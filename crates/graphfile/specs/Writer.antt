@@ -14,7 +14,7 @@ use Rattle.graph.specs.LearnerGraph.{LearnerGraph}
 use Rattle.graph.specs.Held.{listOf, pairList, viewOf}
 use Rattle.graphfile.specs.declared.Written.{Written}
 use Rattle.graphfile.specs.declared.Written.the-variants.{Bytes, NotWritten}
-use Rattle.graphfile.specs.File.{Contents}
+use Rattle.graphfile.specs.File.{outerLen, Contents}
 
 -- ---- the bytes of what a file says
 -- "count .., then two-byte masks"
@@ -39,7 +39,7 @@ bodyBytes f = (version ∷ f .acceptors ∷ f .learners ∷ []) ++ listsBytes (f
 
 -- "Two bytes: count of the bytes after them."
 unfoldable pub fileBytes : Contents → List ℕ
-fileBytes f = bytes 2 (length (bodyBytes f)) ++ bodyBytes f
+fileBytes f = bytes outerLen (length (bodyBytes f)) ++ bodyBytes f
 
 -- ---- what a file says of a graph
 -- k lists, from f a on

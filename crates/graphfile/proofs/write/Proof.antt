@@ -11,7 +11,7 @@ use Rattle.base.specs.declared.refusal.Refusal.the-variants.{Argument}
 use Rattle.graph.specs.Limits.{maxLearners}
 use Rattle.graph.specs.declared.Graph.{Graph}
 use Rattle.graphfile.specs.declared.Written.the-variants.{Bytes, NotWritten}
-use Rattle.graphfile.specs.Writer.{graphFile, fewMasks, fitsMask, sayable, writable, writeAnswer, writeTo, PutIn}
+use Rattle.graphfile.specs.Writer.{graphFile, fewMasks, fitsMask, sayable, writable, writeAnswer, writeTo}
 use Rattle.graphfile.proofs.Putting.{masks-fit, file-most, file-front}
 use borrow.Author.Needs.{needs}
 use native.Mathlib.Omega.{arith}

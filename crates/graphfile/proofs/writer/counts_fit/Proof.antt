@@ -1,7 +1,7 @@
 -- The invariant: what is left passes if and only if all do.
 use mathlib.Core.Path.{_≡_, refl, ap, sym, _∙_}
 use mathlib.Core.Bool.{Bool, _&&_}
-use Prim.Native.Nat.{ℕ, _+_, _-_, _≤_}
+use Prim.Native.Nat.{_+_, _-_, _≤_}
 use borrow.Author.Tests.{lt-leb, le-leb}
 use lib.ListN.{length, getD, drop}
 use Rattle.base.specs.Tests.{all}

@@ -1,10 +1,10 @@
-use mathlib.Core.Path.{_≡_, ap, sym, _∙_, subst}
+use mathlib.Core.Path.{ap, sym, _∙_, subst}
 use mathlib.Core.List.{List, [], _∷_}
 use Prim.Native.Nat.{ℕ, _+_, _≤_}
 use lib.ListN.{length}
 use Rattle.base.specs.Bytes.{putAt}
 use Rattle.graph.specs.Held.{heldGraph}
-use Rattle.graphfile.specs.File.{Contents}
+use Rattle.graphfile.specs.File.{learnersAt, Contents}
 use Rattle.graphfile.specs.Writer.{fileBytes, contentsOf, PutIn}
 use Rattle.graphfile.proofs.Putting.{file-least, file-length, file-most, headed, quorums-room, rows-room, body-end, file-put}
 use borrow.Author.Needs.{needs}
@@ -59,7 +59,7 @@ put-quorums-requires c κs =
     let e = c .before .before .before .before .before .before .before .before .before .before .before .before .before .size .ensures .0 in
     let f : Contents = contentsOf (heldGraph (a .acceptors) (c .before .before .before .before .before .before .before .before .before .before .before .before .before .size .result) (a .counts .now) (a .masks .now)) in
     let m : 0 + length (fileBytes f) ≤ length b = subst (λ (l : ℕ). 0 + length (fileOf (a .acceptors) l (a .counts .now) (a .masks .now)) ≤ length b) (sym e) (p .1 .1 .room) in
-    let H = headed f b m (c .before .before .before .before .before .before .before .before .before .before .before .put8 .last .0) (c .before .before .before .before .before .before .before .put82 .last .0) (c .before .before .before .put83 .last .0) (c .before .before .before .before .before .before .before .before .before .before .before .put8 .ensures) (c .before .before .before .before .before .before .before .put82 .ensures) (c .before .before .before .put83 .ensures ∙ ap (λ (k : ℕ). putAt (c .before .before .before .before .before .before .before .put82 .last .0) 4 (k ∷ [])) (sym e)) in
+    let H = headed f b m (c .before .before .before .before .before .before .before .before .before .before .before .put8 .last .0) (c .before .before .before .before .before .before .before .put82 .last .0) (c .before .before .before .put83 .last .0) (c .before .before .before .before .before .before .before .before .before .before .before .put8 .ensures) (c .before .before .before .before .before .before .before .put82 .ensures) (c .before .before .before .put83 .ensures ∙ ap (λ (k : ℕ). putAt (c .before .before .before .before .before .before .before .put82 .last .0) learnersAt (k ∷ [])) (sym e)) in
     let n = quorums-room f b m (c .before .before .before .put83 .last .0) H in
     (omega (arith, p .0), (p .1 .0, record { fit = p .1 .1 .fit; room = search needs }))
 
@@ -71,7 +71,7 @@ put-rows-requires c κs =
     let e = c .before .before .before .before .before .before .before .before .before .before .before .before .before .before .before .before .before .size .ensures .0 in
     let f : Contents = contentsOf (heldGraph (a .acceptors) (c .before .before .before .before .before .before .before .before .before .before .before .before .before .before .before .before .before .size .result) (a .counts .now) (a .masks .now)) in
     let m : 0 + length (fileBytes f) ≤ length b = subst (λ (l : ℕ). 0 + length (fileOf (a .acceptors) l (a .counts .now) (a .masks .now)) ≤ length b) (sym e) (p .1 .1 .room) in
-    let H = headed f b m (c .before .before .before .before .before .before .before .before .before .before .before .before .before .before .before .put8 .last .0) (c .before .before .before .before .before .before .before .before .before .before .before .put82 .last .0) (c .before .before .before .before .before .before .before .put83 .last .0) (c .before .before .before .before .before .before .before .before .before .before .before .before .before .before .before .put8 .ensures) (c .before .before .before .before .before .before .before .before .before .before .before .put82 .ensures) (c .before .before .before .before .before .before .before .put83 .ensures ∙ ap (λ (k : ℕ). putAt (c .before .before .before .before .before .before .before .before .before .before .before .put82 .last .0) 4 (k ∷ [])) (sym e)) in
+    let H = headed f b m (c .before .before .before .before .before .before .before .before .before .before .before .before .before .before .before .put8 .last .0) (c .before .before .before .before .before .before .before .before .before .before .before .put82 .last .0) (c .before .before .before .before .before .before .before .put83 .last .0) (c .before .before .before .before .before .before .before .before .before .before .before .before .before .before .before .put8 .ensures) (c .before .before .before .before .before .before .before .before .before .before .before .put82 .ensures) (c .before .before .before .before .before .before .before .put83 .ensures ∙ ap (λ (k : ℕ). putAt (c .before .before .before .before .before .before .before .before .before .before .before .put82 .last .0) learnersAt (k ∷ [])) (sym e)) in
     let q = c .before .before .before .put-quorums in
     let n = rows-room f b m (c .before .before .before .before .before .before .before .put83 .last .0) H (q .result) (q .last .1 .1 .1 .0) (q .ensures) in
     (omega (arith, p .0), (p .1 .0, record { fit = p .1 .1 .fit; room = search needs }))
@@ -87,7 +87,7 @@ put16-requires c κs =
     let e = c .before .before .before .before .before .before .before .before .before .before .before .before .before .before .before .before .before .before .before .before .before .size .ensures .0 in
     let f : Contents = contentsOf (heldGraph (a .acceptors) (c .before .before .before .before .before .before .before .before .before .before .before .before .before .before .before .before .before .before .before .before .before .size .result) (a .counts .now) (a .masks .now)) in
     let m : 0 + length (fileBytes f) ≤ length b = subst (λ (l : ℕ). 0 + length (fileOf (a .acceptors) l (a .counts .now) (a .masks .now)) ≤ length b) (sym e) (p .1 .1 .room) in
-    let H = headed f b m (c .before .before .before .before .before .before .before .before .before .before .before .before .before .before .before .before .before .before .before .put8 .last .0) (c .before .before .before .before .before .before .before .before .before .before .before .before .before .before .before .put82 .last .0) (c .before .before .before .before .before .before .before .before .before .before .before .put83 .last .0) (c .before .before .before .before .before .before .before .before .before .before .before .before .before .before .before .before .before .before .before .put8 .ensures) (c .before .before .before .before .before .before .before .before .before .before .before .before .before .before .before .put82 .ensures) (c .before .before .before .before .before .before .before .before .before .before .before .put83 .ensures ∙ ap (λ (k : ℕ). putAt (c .before .before .before .before .before .before .before .before .before .before .before .before .before .before .before .put82 .last .0) 4 (k ∷ [])) (sym e)) in
+    let H = headed f b m (c .before .before .before .before .before .before .before .before .before .before .before .before .before .before .before .before .before .before .before .put8 .last .0) (c .before .before .before .before .before .before .before .before .before .before .before .before .before .before .before .put82 .last .0) (c .before .before .before .before .before .before .before .before .before .before .before .put83 .last .0) (c .before .before .before .before .before .before .before .before .before .before .before .before .before .before .before .before .before .before .before .put8 .ensures) (c .before .before .before .before .before .before .before .before .before .before .before .before .before .before .before .put82 .ensures) (c .before .before .before .before .before .before .before .before .before .before .before .put83 .ensures ∙ ap (λ (k : ℕ). putAt (c .before .before .before .before .before .before .before .before .before .before .before .before .before .before .before .put82 .last .0) learnersAt (k ∷ [])) (sym e)) in
     let q = c .before .before .before .before .before .before .before .put-quorums in
     let r = c .before .before .before .put-rows in
     let n = body-end f b m (c .before .before .before .before .before .before .before .before .before .before .before .put83 .last .0) H (q .result) (q .last .1 .1 .1 .0) (q .ensures) (r .result) (r .last .1 .1 .1 .0) (r .ensures) in
@@ -107,7 +107,7 @@ returns c =
     let e = c .before .before .before .before .before .before .before .before .before .before .before .before .before .before .before .before .before .before .before .before .before .before .before .before .size .ensures .0 in
     let f : Contents = contentsOf (heldGraph (a .acceptors) (c .before .before .before .before .before .before .before .before .before .before .before .before .before .before .before .before .before .before .before .before .before .before .before .before .size .result) (a .counts .now) (a .masks .now)) in
     let m : 0 + length (fileBytes f) ≤ length b = subst (λ (l : ℕ). 0 + length (fileOf (a .acceptors) l (a .counts .now) (a .masks .now)) ≤ length b) (sym e) (p .1 .1 .room) in
-    let H = headed f b m (c .before .before .before .before .before .before .before .before .before .before .before .before .before .before .before .before .before .before .before .before .before .before .put8 .last .0) (c .before .before .before .before .before .before .before .before .before .before .before .before .before .before .before .before .before .before .put82 .last .0) (c .before .before .before .before .before .before .before .before .before .before .before .before .before .before .put83 .last .0) (c .before .before .before .before .before .before .before .before .before .before .before .before .before .before .before .before .before .before .before .before .before .before .put8 .ensures) (c .before .before .before .before .before .before .before .before .before .before .before .before .before .before .before .before .before .before .put82 .ensures) (c .before .before .before .before .before .before .before .before .before .before .before .before .before .before .put83 .ensures ∙ ap (λ (k : ℕ). putAt (c .before .before .before .before .before .before .before .before .before .before .before .before .before .before .before .before .before .before .put82 .last .0) 4 (k ∷ [])) (sym e)) in
+    let H = headed f b m (c .before .before .before .before .before .before .before .before .before .before .before .before .before .before .before .before .before .before .before .before .before .before .put8 .last .0) (c .before .before .before .before .before .before .before .before .before .before .before .before .before .before .before .before .before .before .put82 .last .0) (c .before .before .before .before .before .before .before .before .before .before .before .before .before .before .put83 .last .0) (c .before .before .before .before .before .before .before .before .before .before .before .before .before .before .before .before .before .before .before .before .before .before .put8 .ensures) (c .before .before .before .before .before .before .before .before .before .before .before .before .before .before .before .before .before .before .put82 .ensures) (c .before .before .before .before .before .before .before .before .before .before .before .before .before .before .put83 .ensures ∙ ap (λ (k : ℕ). putAt (c .before .before .before .before .before .before .before .before .before .before .before .before .before .before .before .before .before .before .put82 .last .0) learnersAt (k ∷ [])) (sym e)) in
     let q = c .before .before .before .before .before .before .before .before .before .before .put-quorums in
     let r = c .before .before .before .before .before .before .put-rows in
     let n = file-put f b m (c .before .before .before .before .before .before .before .before .before .before .before .before .before .before .put83 .last .0) H (q .result) (q .last .1 .1 .1 .0) (q .ensures) (r .result) (r .last .1 .1 .1 .0) (r .ensures) (c .before .before .put16 .last .0) (c .before .before .put16 .ensures) in

@@ -1,11 +1,10 @@
 -- The invariant: the lists of the learners before a are put in, and the others are still to be put in.
 use mathlib.Core.Path.{_≡_, refl, ap}
-use mathlib.Core.List.{List}
-use Prim.Native.Nat.{ℕ, _+_, _-_, _≤_}
+use Prim.Native.Nat.{ℕ, _-_, _≤_}
 use lib.ListN.{length}
 use Rattle.graph.specs.Held.{listOf}
 use Rattle.graphfile.specs.Writer.{listsBytes, listed, quorumsOf}
-use Rattle.graphfile.proofs.Putting.{Putting, putting-from, ListsPut, list-room, list-more, lists-all}
+use Rattle.graphfile.proofs.Putting.{putting-from, ListsPut, list-room, list-more, lists-all}
 use borrow.Author.Needs.{needs}
 use native.Mathlib.Omega.{arith}
 use Rattle.graphfile.proofs.writer.put_quorums.Statement.{statement}

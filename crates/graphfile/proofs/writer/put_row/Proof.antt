@@ -1,6 +1,6 @@
 -- The invariant: the lists of the pairs before a-b are put in, and the others are still to be put in.
 use mathlib.Core.Path.{_≡_, refl, ap, subst}
-use Prim.Native.Nat.{ℕ, _+_, _-_, _≤_}
+use Prim.Native.Nat.{ℕ, _-_, _≤_}
 use lib.ListN.{length}
 use Rattle.graph.specs.Held.{listOf, pairList}
 use Rattle.graphfile.specs.Writer.{listBytes, listsBytes, rowOf, PutIn}

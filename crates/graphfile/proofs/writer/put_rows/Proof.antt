@@ -1,6 +1,6 @@
 -- The invariant: the rows of the learners before a are put in, and the others are still to be put in.
 use mathlib.Core.Path.{_≡_, refl, ap}
-use Prim.Native.Nat.{ℕ, _+_, _-_, _≤_}
+use Prim.Native.Nat.{ℕ, _-_, _≤_}
 use lib.ListN.{length}
 use Rattle.graph.specs.Held.{listOf, pairList}
 use Rattle.graphfile.specs.Writer.{rowsBytes, rowsFrom, rowsOf}
