@@ -1,6 +1,7 @@
 // Sample graph files, each with the answer that document 01 gives it. Prints how many failed.
 use base::put_all;
 use base::put16;
+use graphfile::Written;
 ghost use lib.ListN.{length};
 ghost use Prim.Native.Nat.{_+_, _*_, _≤_, _<_};
 
@@ -318,6 +319,49 @@ fn far_too_long() -> u64
     failed(&file, 1)
 }
 
+// 0 where the graph of a file, written to a buffer, takes `len` bytes, or is not written where `len` is 0; and 1 otherwise.
+fn unwritten(file: &[u8], buf: &mut [u8], len: usize) -> u64
+    ensures { λ r. ⌜ r ≤ 1 ⌝ }
+{
+    let n = match graphfile::write(graphfile::read_contents(file).graph, buf) {
+        Written::Bytes(n) => n,
+        Written::NotWritten(_) => 0,
+    };
+    if n == len { 0 } else { 1 }
+}
+
+// 0 where a byte is what it was, and 1 otherwise.
+fn altered(byte: u8, was: u8) -> u64
+    ensures { λ r. ⌜ r ≤ 1 ⌝ }
+{
+    if byte == was { 0 } else { 1 }
+}
+
+// G0 written again; a buffer too short; the graph of zeros that a refused file gives, which a file can say and which is no file's.
+fn writing() -> u64
+    ensures { λ r. ⌜ r ≤ 6 ⌝ }
+{
+    let mut n: u64 = 0;
+    let mut buf = [9u8; 11];
+    n += unwritten(
+        b"\x00\x09\x01\x01\x01\x01\x00\x01\x01\x00\x01",
+        &mut buf,
+        11,
+    );
+    n += failed(&buf, 0);
+    let mut short = [9u8; 10];
+    n += unwritten(
+        b"\x00\x09\x01\x01\x01\x01\x00\x01\x01\x00\x01",
+        &mut short,
+        0,
+    );
+    n += altered(short[0], 9);
+    let mut zeros = [9u8; 5];
+    n += unwritten(b"\x00\x0f\x01", &mut zeros, 5);
+    n += failed(&zeros, 3);
+    n
+}
+
 fn main() {
     let n = rows()
         + lengths()
@@ -326,7 +370,8 @@ fn main() {
         + graphs()
         + cut_short()
         + largest()
-        + far_too_long();
+        + far_too_long()
+        + writing();
     io::print_decimal(1, n);
-    io::write_all(1, b" of 96 failed\n");
+    io::write_all(1, b" of 102 failed\n");
 }

@@ -2,26 +2,28 @@
 use mathlib.Core.Path.{_≡_, refl, ap, ap₂, sym, _∙_, subst}
 use mathlib.Core.Bool.{Bool, true, false, _&&_}
 use mathlib.Core.List.{List, [], _∷_, _++_, append-nil, append-assoc}
-use Prim.Native.Nat.{ℕ, zero, suc, _+_, _-_, _*_, _/_, _%_, _≤_, _<_, min, max}
+use Prim.Native.Nat.{ℕ, zero, suc, _+_, _-_, _≤_, _<_, min, max}
 use native.Mathlib.Numerals.{add-one}
 use native.Mathlib.Omega.{arith}
 use borrow.Author.Tests.{eqb-true, ltb-true, ltb-false, leb-true}
 use lib.Dec.{T, eqb, ltb, leb}
-use lib.ListN.{length, getD, drop, length-drop}
-use lib.Seq.{drop-cons, ext-getD, drop-length}
+use lib.ListN.{length, getD, drop, length-drop, take-append-drop}
+use lib.Seq.{drop-cons, drop-drop, ext-getD, drop-length}
 use Rattle.base.specs.Tests.{_∈_, pick}
-use Rattle.base.specs.Bytes.{be}
+use Rattle.base.specs.Bytes.{be, bytes, Octets}
+use Rattle.base.proofs.Bytes.{bytes-be}
 use Rattle.base.specs.declared.refusal.Refusal.{Refusal}
 use Rattle.base.specs.declared.refusal.Refusal.the-variants.{Length, Version, Range, NotValid, NotCondensed}
 use Rattle.graph.specs.declared.Answer.the-variants.{Accepted, Refused}
 use Rattle.graph.specs.declared.Graph.{Graph}
-use Rattle.graph.specs.Limits.{version, maxLearners, maxAcceptors}
+use Rattle.graph.specs.Limits.{version, maxLearners, maxAcceptors, maskBytes}
 use Rattle.graph.specs.LearnerGraph.{LearnerGraph, valid, condensed}
-use Rattle.graphfile.specs.File.{Got, got, no, maskAnswer, readVersion, readCount, readMasks, readList, readLists, readRows, Contents, readGraph, contents, graphOf, answerOf, contentsAnswer}
+use Rattle.graphfile.specs.File.{outerLen, versionAt, acceptorsAt, learnersAt, listsAt, Got, got, no, maskAnswer, readVersion, readCount, readMasks, readList, readLists, readRows, Contents, readGraph, contents, graphOf, answerOf, contentsAnswer}
 use Rattle.graph.specs.Held.{viewOf, pairList, triangle, listOf}
 use Rattle.graphfile.specs.Held.{heldOf, graphOfHeld, graphReading, contentsReading, readingOf}
 use Rattle.graph.specs.Theorems.{SameGraph, Undirected}
-use Rattle.graphfile.specs.Theorems.{HeldSaysTheSame, AcceptedIsSound, FilesDiffer}
+use Rattle.graphfile.specs.Writer.{masksBytes, listBytes, listsBytes, rowsBytes, bodyBytes, fileBytes}
+use Rattle.graphfile.specs.Theorems.{HeldSaysTheSame, AcceptedIsSound, FilesDiffer, FileWrittenBack}
 use Rattle.graphfile.proofs.Reader.{Rows, GraphGot, pick-got, check-got, then-got, graph-got, list-got}
 use Rattle.graph.proofs.LearnerGraph.{Symmetric}
 use Rattle.graph.proofs.Same.{valid-same, condensed-same}
@@ -169,35 +171,10 @@ acceptedIsSound s e =
     }
 
 -- ---- the bytes of a file follow from what it says
-unfoldable masksBytes : List ℕ → List ℕ
-masksBytes [] = []
-masksBytes (m ∷ l) = m / 256 ∷ m % 256 ∷ masksBytes l
-
-listBytes : List ℕ → List ℕ
-listBytes l = length l ∷ masksBytes l
-
-unfoldable listsBytes : List (List ℕ) → List ℕ
-listsBytes [] = []
-listsBytes (l ∷ ls) = listBytes l ++ listsBytes ls
-
-unfoldable rowsBytes : List (List (List ℕ)) → List ℕ
-rowsBytes [] = []
-rowsBytes (r ∷ rs) = listsBytes r ++ rowsBytes rs
-
-module _ (s : List ℕ) (bytes : (i : ℕ) → getD s i 0 < 256) (n : ℕ) where
-  drop-two : (at : ℕ) → at + 2 ≤ length s → drop at s ≡ be 2 s at / 256 ∷ be 2 s at % 256 ∷ drop (at + 2) s
-  unfolding be
-  drop-two at h =
-      let x = getD s at 0 in
-      let y = getD s (suc at) 0 in
-      let bx = bytes at in
-      let by = bytes (suc at) in
-      let z : getD s (at + 0) 0 ≡ x = ap (λ (k : ℕ). getD s k 0) (let e : at + 0 ≡ at = omega arith in e) in
-      let w : getD s (at + 1) 0 ≡ y = ap (λ (k : ℕ). getD s k 0) (add-one at) in
-      let ex : x ≡ ((0 * 256 + getD s (at + 0) 0) * 256 + getD s (at + 1) 0) / 256 = omega arith in
-      let ey : y ≡ ((0 * 256 + getD s (at + 0) 0) * 256 + getD s (at + 1) 0) % 256 = omega arith in
-      let e2 : suc (suc at) ≡ at + 2 = omega arith in
-      drop-cons s at 0 (omega arith) ∙ ap (λ (t : List ℕ). x ∷ t) (drop-cons s (suc at) 0 (omega arith)) ∙ (λ i. ex i ∷ ey i ∷ drop (e2 i) s)
+module _ (s : List ℕ) (octets : Octets s) (n : ℕ) where
+  drop-number : (w at : ℕ) → at + w ≤ length s → drop at s ≡ bytes w (be w s at) ++ drop (at + w) s
+  drop-number w at h =
+      sym (take-append-drop w (drop at s)) ∙ ap₂ (λ (x y : List ℕ). x ++ y) (sym (bytes-be w s at octets h)) (drop-drop w at s)
 
   masks-bytes : (k : ℕ) (e : List ℕ) (at : ℕ) (l : List ℕ) (next : ℕ) → readMasks s n k e at ≡ got l next → (l′ : List ℕ) × (l ≡ e ++ l′) × (drop at s ≡ masksBytes l′ ++ drop next s)
   unfolding readMasks masksBytes
@@ -211,10 +188,9 @@ module _ (s : List ℕ) (bytes : (i : ℕ) → getD s i 0 < 256) (n : ℕ) where
       let (q, f₂) = check-got (maskAnswer n e m) _ l next f₁ in
       let i = ltb-false (length s) (at + 2) p in
       let (l′, x, y) = masks-bytes k (e ++ (m ∷ [])) (at + 2) l next f₂ in
-      (m ∷ l′, x ∙ append-assoc e (m ∷ []) l′, drop-two at i ∙ ap (λ (t : List ℕ). m / 256 ∷ m % 256 ∷ t) y)
+      (m ∷ l′, x ∙ append-assoc e (m ∷ []) l′, drop-number maskBytes at i ∙ ap (λ (t : List ℕ). bytes maskBytes m ++ t) y ∙ sym (append-assoc (bytes maskBytes m) (masksBytes l′) (drop next s)))
 
   list-bytes : (low at : ℕ) (l : List ℕ) (next : ℕ) → readList s n low at ≡ got l next → drop at s ≡ listBytes l ++ drop next s
-  unfolding listBytes
   list-bytes low at l next e =
       let t = list-got s n low at l next e in
       let (l′, x, y) = masks-bytes (length l) [] (at + 1) l next (t .masks) in
@@ -259,18 +235,23 @@ module _ (s : List ℕ) (bytes : (i : ℕ) → getD s i 0 < 256) (n : ℕ) where
       y ∙ ap (λ (t : List ℕ). listsBytes qs′ ++ t) (y′ ∙ ap (λ (k : ℕ). rowsBytes rs ++ drop k s) d′ ∙ ap (λ (t : List ℕ). rowsBytes rs ++ t) (drop-length s) ∙ append-nil (rowsBytes rs))
       ∙ ap₂ (λ (q : List (List ℕ)) (r : List (List (List ℕ))). listsBytes q ++ rowsBytes r) (sym x ∙ ap (λ (x : Contents). x .quorums) d) (sym x′ ∙ ap (λ (x : Contents). x .rows) d)
 
--- the whole file
-file-bytes : (s : List ℕ) (bytes : (i : ℕ) → getD s i 0 < 256) (f : Contents) → FileGot s f
-    → s ≡ (length s - 2) / 256 ∷ (length s - 2) % 256 ∷ 1 ∷ f .acceptors ∷ f .learners ∷ drop 5 s
-file-bytes s bytes f F =
+-- the whole file: its head, and what stands behind it
+file-bytes : (s : List ℕ) → Octets s → (f : Contents) → FileGot s f → s ≡ fileBytes f
+unfolding fileBytes
+file-bytes s octets f F =
     let o = F .outer in
     let h = F .long in
-    let e : be 2 s 0 ≡ length s - 2 = omega arith in
-    drop-two s bytes (f .acceptors) 0 (omega arith) ∙ ap (λ (m : ℕ). m / 256 ∷ m % 256 ∷ drop 2 s) e
-    ∙ ap (λ (t : List ℕ). (length s - 2) / 256 ∷ (length s - 2) % 256 ∷ t)
-    (drop-cons s 2 0 (omega arith) ∙ ap₂ (λ (x : ℕ) (t : List ℕ). x ∷ t) (F .version)
-    (drop-cons s 3 0 (omega arith) ∙ ap₂ (λ (x : ℕ) (t : List ℕ). x ∷ t) (F .acceptors)
-    (drop-cons s 4 0 (omega arith) ∙ ap (λ (x : ℕ). x ∷ drop 5 s) (F .learners))))
+    let t = listsBytes (f .quorums) ++ rowsBytes (f .rows) in
+    let b : drop versionAt s ≡ bodyBytes f =
+    drop-cons s versionAt 0 (omega arith) ∙ ap₂ (λ (x : ℕ) (y : List ℕ). x ∷ y) (F .version)
+    (drop-cons s acceptorsAt 0 (omega arith) ∙ ap₂ (λ (x : ℕ) (y : List ℕ). x ∷ y) (F .acceptors)
+    (drop-cons s learnersAt 0 (omega arith) ∙ ap₂ (λ (x : ℕ) (y : List ℕ). x ∷ y) (F .learners) (graph-bytes s octets (f .acceptors) (f .learners) listsAt f (F .lists)))) in
+    let l = sym (length-drop versionAt s) ∙ ap length b in
+    let n : be outerLen s 0 ≡ length (bodyBytes f) = omega arith in
+    drop-number s octets (f .acceptors) outerLen 0 (omega arith) ∙ ap₂ (λ (x : ℕ) (y : List ℕ). bytes outerLen x ++ y) n b
+
+pub fileWrittenBack : FileWrittenBack
+fileWrittenBack s octets f end e = file-bytes s octets f (file-got s f end e)
 
 -- rows with the same lists are one
 rows-ext : (k : ℕ) (rs ss : List (List (List ℕ))) → Rows k rs → Rows k ss → ((x y : ℕ) → x + y < k → getD (getD rs x []) y [] ≡ getD (getD ss x []) y []) → rs ≡ ss
@@ -329,13 +310,4 @@ filesDiffer s t bs bt es et same =
     let (eq, er) = contents-ext (f .learners) f g (graph-got s (f .acceptors) (f .learners) 5 f (length s) (F .long) (F .lists))
     (subst (λ (l : ℕ). GraphGot (g .acceptors) l g) (sym el) (graph-got t (g .acceptors) (g .learners) 5 g (length t) (G .long) (G .lists))) S
     in
-    let d : drop 5 s ≡ drop 5 t = graph-bytes s bs (f .acceptors) (f .learners) 5 f (F .lists) ∙ ap₂ (λ (q : List (List ℕ)) (r : List (List (List ℕ))). listsBytes q ++ rowsBytes r) eq er
-    ∙ sym (graph-bytes t bt (g .acceptors) (g .learners) 5 g (G .lists))
-    in
-    let fl = F .long in
-    let gl = G .long in
-    let ls = length-drop 5 s in
-    let lt = length-drop 5 t in
-    let ld = ap length d in
-    let n : length s - 2 ≡ length t - 2 = omega arith in
-    file-bytes s bs f F ∙ (λ i. n i / 256 ∷ n i % 256 ∷ 1 ∷ ea i ∷ el i ∷ d i) ∙ sym (file-bytes t bt g G)
+    file-bytes s bs f F ∙ (λ i. fileBytes (record { acceptors = ea i; learners = el i; quorums = eq i; rows = er i })) ∙ sym (file-bytes t bt g G)

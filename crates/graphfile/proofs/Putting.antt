@@ -234,7 +234,7 @@ module _ (f : Contents) where
   unfolding fileBytes
   file-length = length-append (bytes outerLen (length (bodyBytes f))) (bodyBytes f) ∙ omega (arith, bytes-length outerLen (length (bodyBytes f)))
 
-  pub body-length : length (bodyBytes f) ≡ 3 + length (listsBytes (f .quorums)) + length (rowsBytes (f .rows))
+  pub body-length : length (bodyBytes f) ≡ listsAt - versionAt + length (listsBytes (f .quorums)) + length (rowsBytes (f .rows))
   body-length = omega (arith, length-append (listsBytes (f .quorums)) (rowsBytes (f .rows)))
 
   pub file-least : listsAt ≤ length (fileBytes f)
@@ -298,7 +298,7 @@ module _ (f : Contents) (b : List ℕ) (m : 0 + length (fileBytes f) ≤ length 
             let c = body-room in
             record {
               behind = omega arith;
-              held = e ∙ ap₂ (λ (p : List ℕ) (j : ℕ). putAt p 0 (bytes 2 j)) (body .held) k ∙ put-front b h (bodyBytes f) outerLen (bytes-length outerLen (length (bodyBytes f))) (omega arith);
+              held = e ∙ ap₂ (λ (p : List ℕ) (j : ℕ). putAt p 0 (bytes outerLen j)) (body .held) k ∙ put-front b h (bodyBytes f) outerLen (bytes-length outerLen (length (bodyBytes f))) (omega arith);
             }
 
 -- ---- the file as it stands in front of what it was put into

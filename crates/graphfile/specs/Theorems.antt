@@ -4,6 +4,7 @@ use mathlib.Core.List.{List}
 use Prim.Native.Nat.{ℕ, _≤_, _<_}
 use lib.Dec.{T}
 use lib.ListN.{length, getD, take}
+use Rattle.base.specs.Bytes.{Octets}
 use Rattle.graph.specs.declared.Answer.the-variants.{Accepted}
 use Rattle.graph.specs.declared.Graph.{Graph}
 use Rattle.graph.specs.Limits.{maxAcceptors, maxLearners, maxMasks}
@@ -13,7 +14,7 @@ use Rattle.graph.specs.Theorems.{Undirected, SameGraph}
 use Rattle.graphfile.specs.declared.Reading.{Reading}
 use Rattle.graphfile.specs.File.{Contents, contents, got, maskAnswer, graphOf, answerOf}
 use Rattle.graphfile.specs.Held.{heldReading, readingOf}
-use Rattle.graphfile.specs.Writer.{graphFile}
+use Rattle.graphfile.specs.Writer.{fileBytes, graphFile}
 
 -- The graph in memory lists the same masks in the same order as the file.
 abbrev pub HeldSaysTheSame : Type 0
@@ -31,7 +32,7 @@ AcceptedIsSound = (s : List ℕ) → answerOf s ≡ Accepted → Sound (viewOf (
 -- No two accepted files are held as the same graph.
 abbrev pub FilesDiffer : Type 0
 FilesDiffer =
-    (s t : List ℕ) → ((i : ℕ) → getD s i 0 < 256) → ((i : ℕ) → getD t i 0 < 256) → answerOf s ≡ Accepted → answerOf t ≡ Accepted
+    (s t : List ℕ) → Octets s → Octets t → answerOf s ≡ Accepted → answerOf t ≡ Accepted
     → SameGraph (viewOf (readingOf s .graph)) (viewOf (readingOf t .graph)) → s ≡ t
 
 -- ---- what is written is read back
@@ -57,3 +58,7 @@ pub record ReadBack (g : Graph) (r : Reading) : Type 0 where
 -- The file of a graph in order is read, by rows 1 to 5, as the same graph.
 abbrev pub GraphReadsBack : Type 0
 GraphReadsBack = (g : Graph) → InOrder (viewOf g) → ReadBack g (heldReading (contents (graphFile g)))
+
+-- And bytes that rows 1 to 5 accept are those that are written for what they say.
+abbrev pub FileWrittenBack : Type 0
+FileWrittenBack = (s : List ℕ) → Octets s → (f : Contents) (end : ℕ) → contents s ≡ got f end → s ≡ fileBytes f
