@@ -18,9 +18,9 @@ ghost use Prim.Native.Nat.{_+_, _≤_, _<_};
 ghost use lib.ListN.{length};
 ghost use lib.Seq.{slice};
 ghost use Rattle.base.specs.Tests.{all};
-ghost use Rattle.graph.specs.Limits.{lists, maxLearners};
+ghost use Rattle.graph.specs.Limits.{lists};
 ghost use Rattle.graph.specs.Held.{heldGraph, listOf, Sized};
-ghost use Rattle.graphfile.specs.Writer.{masksBytes, listBytes, listsBytes, rowsBytes, fileBytes, contentsOf, fewMasks, fitsMask, Room, PutIn, quorumsOf, rowOf, rowsOf};
+ghost use Rattle.graphfile.specs.Writer.{masksBytes, listBytes, listsBytes, rowsBytes, fileBytes, contentsOf, fewMasks, fitsMask, InMemory, Room, PutIn, quorumsOf, rowOf, rowsOf};
 
 // The masks of a file are below it.
 const MASK_END: Mask = 65536;
@@ -87,7 +87,7 @@ fn put_quorums<'a>(
     out: &mut [u8],
     at: usize,
 ) -> usize
-    requires { ⌜ (learners ≤ maxLearners) × (Sized (now counts) (now masks) × Room (now masks) (now out) at (listsBytes (quorumsOf (now counts) (now masks) learners))) ⌝ }
+    requires { ⌜ InMemory (now counts) (now masks) learners × Room (now masks) (now out) at (listsBytes (quorumsOf (now counts) (now masks) learners)) ⌝ }
     ensures { λ r. ⌜ PutIn (listsBytes (quorumsOf (now (counts .entry)) (now (masks .entry)) learners)) at r (now (out .entry)) (now (out .exit)) ⌝ }
 {
     let mut here = at;
@@ -108,7 +108,7 @@ fn put_row<'a>(
     out: &mut [u8],
     at: usize,
 ) -> usize
-    requires { ⌜ (a ≤ learners) × ((learners ≤ maxLearners) × (Sized (now counts) (now masks) × Room (now masks) (now out) at (listsBytes (rowOf (now counts) (now masks) learners a)))) ⌝ }
+    requires { ⌜ (a ≤ learners) × (InMemory (now counts) (now masks) learners × Room (now masks) (now out) at (listsBytes (rowOf (now counts) (now masks) learners a))) ⌝ }
     ensures { λ r. ⌜ PutIn (listsBytes (rowOf (now (counts .entry)) (now (masks .entry)) learners a)) at r (now (out .entry)) (now (out .exit)) ⌝ }
 {
     let mut here = at;
@@ -128,7 +128,7 @@ fn put_rows<'a>(
     out: &mut [u8],
     at: usize,
 ) -> usize
-    requires { ⌜ (learners ≤ maxLearners) × (Sized (now counts) (now masks) × Room (now masks) (now out) at (rowsBytes (rowsOf (now counts) (now masks) learners))) ⌝ }
+    requires { ⌜ InMemory (now counts) (now masks) learners × Room (now masks) (now out) at (rowsBytes (rowsOf (now counts) (now masks) learners)) ⌝ }
     ensures { λ r. ⌜ PutIn (rowsBytes (rowsOf (now (counts .entry)) (now (masks .entry)) learners)) at r (now (out .entry)) (now (out .exit)) ⌝ }
 {
     let mut here = at;
@@ -148,7 +148,7 @@ pub fn put_file<'a>(
     masks: &'a [Mask],
     out: &mut [u8],
 ) -> usize
-    requires { ⌜ (learners ≤ maxLearners) × (Sized (now counts) (now masks) × Room (now masks) (now out) 0 (fileBytes (contentsOf (heldGraph acceptors learners (now counts) (now masks))))) ⌝ }
+    requires { ⌜ InMemory (now counts) (now masks) learners × Room (now masks) (now out) 0 (fileBytes (contentsOf (heldGraph acceptors learners (now counts) (now masks)))) ⌝ }
     ensures { λ r. ⌜ PutIn (fileBytes (contentsOf (heldGraph acceptors learners (now (counts .entry)) (now (masks .entry))))) 0 r (now (out .entry)) (now (out .exit)) ⌝ }
 {
     let l = size(learners);

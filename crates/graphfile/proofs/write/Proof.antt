@@ -99,7 +99,7 @@ put-file-requires c κs =
     let counts = sym (c .before .before .before .before .before .before .before .before .before .before .before .before .counts-fit .ensures) ∙ not-false (c .before .before .before .before .before .before .before .before .before .before .before .before .counts-fit .result) (c .before .before .before .before .before .before .before .before .before .before .before .if2 .left) in
     let masks = sym (c .before .before .before .before .before .before .before .masks-fit .ensures) ∙ not-false (c .before .before .before .before .before .before .before .masks-fit .result) (c .before .before .before .before .before .before .if3 .left) in
     let most = file-most (g .acceptors) (g .learners) (g .counts) (g .masks) (omega (arith, c .before .before .before .before .before .before .before .before .before .before .before .before .before .before .before .before .if1 .left)) in
-    (omega (arith, c .before .before .before .before .before .before .before .before .before .before .before .before .before .before .before .before .if1 .left), (search needs, record { fit = masks-fit (g .masks) masks; room = search needs }))
+    (record { few = omega (arith, c .before .before .before .before .before .before .before .before .before .before .before .before .before .before .before .before .if1 .left); sized = search needs }, record { fit = masks-fit (g .masks) masks; room = search needs })
 
 returns-4 : tie.Need-returns-4
 returns-4 c =

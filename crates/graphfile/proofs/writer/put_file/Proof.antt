@@ -25,7 +25,7 @@ put8-requires c κs =
     let b = a .out .now in
     let e = c .before .size .ensures .0 in
     let f : Contents = contentsOf (heldGraph (a .acceptors) (c .before .size .result) (a .counts .now) (a .masks .now)) in
-    let m : 0 + length (fileBytes f) ≤ length b = subst (λ (l : ℕ). 0 + length (fileOf (a .acceptors) l (a .counts .now) (a .masks .now)) ≤ length b) (sym e) (p .1 .1 .room) in
+    let m : 0 + length (fileBytes f) ≤ length b = subst (λ (l : ℕ). 0 + length (fileOf (a .acceptors) l (a .counts .now) (a .masks .now)) ≤ length b) (sym e) (p .1 .room) in
     let n = file-least f in
     search needs
 
@@ -36,7 +36,7 @@ put8-requires-2 c κs =
     let b = a .out .now in
     let e = c .before .before .before .before .before .size .ensures .0 in
     let f : Contents = contentsOf (heldGraph (a .acceptors) (c .before .before .before .before .before .size .result) (a .counts .now) (a .masks .now)) in
-    let m : 0 + length (fileBytes f) ≤ length b = subst (λ (l : ℕ). 0 + length (fileOf (a .acceptors) l (a .counts .now) (a .masks .now)) ≤ length b) (sym e) (p .1 .1 .room) in
+    let m : 0 + length (fileBytes f) ≤ length b = subst (λ (l : ℕ). 0 + length (fileOf (a .acceptors) l (a .counts .now) (a .masks .now)) ≤ length b) (sym e) (p .1 .room) in
     let n = file-least f in
     search needs
 
@@ -47,7 +47,7 @@ put8-requires-3 c κs =
     let b = a .out .now in
     let e = c .before .before .before .before .before .before .before .before .before .size .ensures .0 in
     let f : Contents = contentsOf (heldGraph (a .acceptors) (c .before .before .before .before .before .before .before .before .before .size .result) (a .counts .now) (a .masks .now)) in
-    let m : 0 + length (fileBytes f) ≤ length b = subst (λ (l : ℕ). 0 + length (fileOf (a .acceptors) l (a .counts .now) (a .masks .now)) ≤ length b) (sym e) (p .1 .1 .room) in
+    let m : 0 + length (fileBytes f) ≤ length b = subst (λ (l : ℕ). 0 + length (fileOf (a .acceptors) l (a .counts .now) (a .masks .now)) ≤ length b) (sym e) (p .1 .room) in
     let n = file-least f in
     search needs
 
@@ -58,10 +58,10 @@ put-quorums-requires c κs =
     let b = a .out .now in
     let e = c .before .before .before .before .before .before .before .before .before .before .before .before .before .size .ensures .0 in
     let f : Contents = contentsOf (heldGraph (a .acceptors) (c .before .before .before .before .before .before .before .before .before .before .before .before .before .size .result) (a .counts .now) (a .masks .now)) in
-    let m : 0 + length (fileBytes f) ≤ length b = subst (λ (l : ℕ). 0 + length (fileOf (a .acceptors) l (a .counts .now) (a .masks .now)) ≤ length b) (sym e) (p .1 .1 .room) in
+    let m : 0 + length (fileBytes f) ≤ length b = subst (λ (l : ℕ). 0 + length (fileOf (a .acceptors) l (a .counts .now) (a .masks .now)) ≤ length b) (sym e) (p .1 .room) in
     let H = headed f b m (c .before .before .before .before .before .before .before .before .before .before .before .put8 .last .0) (c .before .before .before .before .before .before .before .put82 .last .0) (c .before .before .before .put83 .last .0) (c .before .before .before .before .before .before .before .before .before .before .before .put8 .ensures) (c .before .before .before .before .before .before .before .put82 .ensures) (c .before .before .before .put83 .ensures ∙ ap (λ (k : ℕ). putAt (c .before .before .before .before .before .before .before .put82 .last .0) learnersAt (k ∷ [])) (sym e)) in
     let n = quorums-room f b m (c .before .before .before .put83 .last .0) H in
-    (omega (arith, p .0), (p .1 .0, record { fit = p .1 .1 .fit; room = search needs }))
+    (record { few = omega (arith, p .0 .few); sized = p .0 .sized }, record { fit = p .1 .fit; room = search needs })
 
 put-rows-requires : tie.Need-put-rows-requires
 put-rows-requires c κs =
@@ -70,11 +70,11 @@ put-rows-requires c κs =
     let b = a .out .now in
     let e = c .before .before .before .before .before .before .before .before .before .before .before .before .before .before .before .before .before .size .ensures .0 in
     let f : Contents = contentsOf (heldGraph (a .acceptors) (c .before .before .before .before .before .before .before .before .before .before .before .before .before .before .before .before .before .size .result) (a .counts .now) (a .masks .now)) in
-    let m : 0 + length (fileBytes f) ≤ length b = subst (λ (l : ℕ). 0 + length (fileOf (a .acceptors) l (a .counts .now) (a .masks .now)) ≤ length b) (sym e) (p .1 .1 .room) in
+    let m : 0 + length (fileBytes f) ≤ length b = subst (λ (l : ℕ). 0 + length (fileOf (a .acceptors) l (a .counts .now) (a .masks .now)) ≤ length b) (sym e) (p .1 .room) in
     let H = headed f b m (c .before .before .before .before .before .before .before .before .before .before .before .before .before .before .before .put8 .last .0) (c .before .before .before .before .before .before .before .before .before .before .before .put82 .last .0) (c .before .before .before .before .before .before .before .put83 .last .0) (c .before .before .before .before .before .before .before .before .before .before .before .before .before .before .before .put8 .ensures) (c .before .before .before .before .before .before .before .before .before .before .before .put82 .ensures) (c .before .before .before .before .before .before .before .put83 .ensures ∙ ap (λ (k : ℕ). putAt (c .before .before .before .before .before .before .before .before .before .before .before .put82 .last .0) learnersAt (k ∷ [])) (sym e)) in
     let q = c .before .before .before .put-quorums in
     let n = rows-room f b m (c .before .before .before .before .before .before .before .put83 .last .0) H (q .result) (q .last .1 .1 .1 .0) (q .ensures) in
-    (omega (arith, p .0), (p .1 .0, record { fit = p .1 .1 .fit; room = search needs }))
+    (record { few = omega (arith, p .0 .few); sized = p .0 .sized }, record { fit = p .1 .fit; room = search needs })
 
 sub-put16 : tie.Need-sub-put16
 sub-put16 c = search needs
@@ -86,14 +86,14 @@ put16-requires c κs =
     let b = a .out .now in
     let e = c .before .before .before .before .before .before .before .before .before .before .before .before .before .before .before .before .before .before .before .before .before .size .ensures .0 in
     let f : Contents = contentsOf (heldGraph (a .acceptors) (c .before .before .before .before .before .before .before .before .before .before .before .before .before .before .before .before .before .before .before .before .before .size .result) (a .counts .now) (a .masks .now)) in
-    let m : 0 + length (fileBytes f) ≤ length b = subst (λ (l : ℕ). 0 + length (fileOf (a .acceptors) l (a .counts .now) (a .masks .now)) ≤ length b) (sym e) (p .1 .1 .room) in
+    let m : 0 + length (fileBytes f) ≤ length b = subst (λ (l : ℕ). 0 + length (fileOf (a .acceptors) l (a .counts .now) (a .masks .now)) ≤ length b) (sym e) (p .1 .room) in
     let H = headed f b m (c .before .before .before .before .before .before .before .before .before .before .before .before .before .before .before .before .before .before .before .put8 .last .0) (c .before .before .before .before .before .before .before .before .before .before .before .before .before .before .before .put82 .last .0) (c .before .before .before .before .before .before .before .before .before .before .before .put83 .last .0) (c .before .before .before .before .before .before .before .before .before .before .before .before .before .before .before .before .before .before .before .put8 .ensures) (c .before .before .before .before .before .before .before .before .before .before .before .before .before .before .before .put82 .ensures) (c .before .before .before .before .before .before .before .before .before .before .before .put83 .ensures ∙ ap (λ (k : ℕ). putAt (c .before .before .before .before .before .before .before .before .before .before .before .before .before .before .before .put82 .last .0) learnersAt (k ∷ [])) (sym e)) in
     let q = c .before .before .before .before .before .before .before .put-quorums in
     let r = c .before .before .before .put-rows in
     let n = body-end f b m (c .before .before .before .before .before .before .before .before .before .before .before .put83 .last .0) H (q .result) (q .last .1 .1 .1 .0) (q .ensures) (r .result) (r .last .1 .1 .1 .0) (r .ensures) in
     let k = file-least f in
     let l = file-length f in
-    let w = file-most (a .acceptors) (c .before .before .before .before .before .before .before .before .before .before .before .before .before .before .before .before .before .before .before .before .before .size .result) (a .counts .now) (a .masks .now) (omega (arith, p .0)) in
+    let w = file-most (a .acceptors) (c .before .before .before .before .before .before .before .before .before .before .before .before .before .before .before .before .before .before .before .before .before .size .result) (a .counts .now) (a .masks .now) (omega (arith, p .0 .few)) in
     (search needs, omega arith)
 
 same-length : tie.Need-same-length
@@ -106,7 +106,7 @@ returns c =
     let b = a .out .now in
     let e = c .before .before .before .before .before .before .before .before .before .before .before .before .before .before .before .before .before .before .before .before .before .before .before .before .size .ensures .0 in
     let f : Contents = contentsOf (heldGraph (a .acceptors) (c .before .before .before .before .before .before .before .before .before .before .before .before .before .before .before .before .before .before .before .before .before .before .before .before .size .result) (a .counts .now) (a .masks .now)) in
-    let m : 0 + length (fileBytes f) ≤ length b = subst (λ (l : ℕ). 0 + length (fileOf (a .acceptors) l (a .counts .now) (a .masks .now)) ≤ length b) (sym e) (p .1 .1 .room) in
+    let m : 0 + length (fileBytes f) ≤ length b = subst (λ (l : ℕ). 0 + length (fileOf (a .acceptors) l (a .counts .now) (a .masks .now)) ≤ length b) (sym e) (p .1 .room) in
     let H = headed f b m (c .before .before .before .before .before .before .before .before .before .before .before .before .before .before .before .before .before .before .before .before .before .before .put8 .last .0) (c .before .before .before .before .before .before .before .before .before .before .before .before .before .before .before .before .before .before .put82 .last .0) (c .before .before .before .before .before .before .before .before .before .before .before .before .before .before .put83 .last .0) (c .before .before .before .before .before .before .before .before .before .before .before .before .before .before .before .before .before .before .before .before .before .before .put8 .ensures) (c .before .before .before .before .before .before .before .before .before .before .before .before .before .before .before .before .before .before .put82 .ensures) (c .before .before .before .before .before .before .before .before .before .before .before .before .before .before .put83 .ensures ∙ ap (λ (k : ℕ). putAt (c .before .before .before .before .before .before .before .before .before .before .before .before .before .before .before .before .before .before .put82 .last .0) learnersAt (k ∷ [])) (sym e)) in
     let q = c .before .before .before .before .before .before .before .before .before .before .put-quorums in
     let r = c .before .before .before .before .before .before .put-rows in

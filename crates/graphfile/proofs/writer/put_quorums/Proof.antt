@@ -27,9 +27,9 @@ put-list-requires c κs =
     let a = c .before .before .before .before .before .before .args in
     let p = c .before .before .before .before .before .before .pre in
     let l = c .before .before .loop in
-    let m = list-room (λ k. listOf (a .counts .now) (a .masks .now) k) (a .learners) (listsBytes (quorumsOf (a .counts .now) (a .masks .now) (a .learners))) (a .at) (a .out .now) (l .a) (l .here) (l .out) (l .inv .1 .1) (omega arith) (p .1 .1 .room) in
+    let m = list-room (λ k. listOf (a .counts .now) (a .masks .now) k) (a .learners) (listsBytes (quorumsOf (a .counts .now) (a .masks .now) (a .learners))) (a .at) (a .out .now) (l .a) (l .here) (l .out) (l .inv .1 .1) (omega arith) (p .1 .room) in
     let e = l .inv .1 .0 in
-    (omega arith, (p .1 .0, record { fit = p .1 .1 .fit; room = omega arith }))
+    (let few = p .0 .few in omega arith, (p .0 .sized, record { fit = p .1 .fit; room = omega arith }))
 
 add-a : tie.Need-add-a Inv-loop μ-loop
 add-a c = search needs
@@ -42,7 +42,7 @@ loop-again c =
     let a = c .before .before .before .before .before .before .before .before .before .args in
     let p = c .before .before .before .before .before .before .before .before .before .pre in
     let l = c .before .before .before .before .before .loop in
-    let m = list-more (λ k. listOf (a .counts .now) (a .masks .now) k) (a .learners) (listsBytes (quorumsOf (a .counts .now) (a .masks .now) (a .learners))) (a .at) (a .out .now) (l .a) (l .here) (l .out) (l .inv .1 .1) (c .before .before .put-list .result) (c .before .before .put-list .last .1 .1 .1 .0) (omega arith) (p .1 .1 .room) (c .before .before .put-list .ensures) in
+    let m = list-more (λ k. listOf (a .counts .now) (a .masks .now) k) (a .learners) (listsBytes (quorumsOf (a .counts .now) (a .masks .now) (a .learners))) (a .at) (a .out .now) (l .a) (l .here) (l .out) (l .inv .1 .1) (c .before .before .put-list .result) (c .before .before .put-list .last .1 .1 .1 .0) (omega arith) (p .1 .room) (c .before .before .put-list .ensures) in
     (omega arith, (search needs, m))
 
 same-length : tie.Need-same-length Inv-loop μ-loop

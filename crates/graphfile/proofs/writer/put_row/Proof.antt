@@ -30,10 +30,10 @@ put-list-requires c κs =
     let p = c .before .before .before .before .before .before .before .pre in
     let l = c .before .before .before .loop in
     let k = c .before .pair-list .ensures in
-    let m = list-room (λ k. listOf (a .counts .now) (a .masks .now) (pairList (a .a) k)) (a .learners) (listsBytes (rowOf (a .counts .now) (a .masks .now) (a .learners) (a .a))) (a .at) (a .out .now) (l .b) (l .here) (l .out) (l .inv .1 .1 .1) (omega arith) (p .1 .1 .1 .room) in
+    let m = list-room (λ k. listOf (a .counts .now) (a .masks .now) (pairList (a .a) k)) (a .learners) (listsBytes (rowOf (a .counts .now) (a .masks .now) (a .learners) (a .a))) (a .at) (a .out .now) (l .b) (l .here) (l .out) (l .inv .1 .1 .1) (omega arith) (p .1 .1 .room) in
     let n = ap (λ (j : ℕ). length (listBytes (listOf (a .counts .now) (a .masks .now) j))) (k .0) in
     let e = l .inv .1 .1 .0 in
-    (k .1, (p .1 .1 .0, record { fit = p .1 .1 .1 .fit; room = omega arith }))
+    (k .1, (p .1 .0 .sized, record { fit = p .1 .1 .fit; room = omega arith }))
 
 add-b : tie.Need-add-b Inv-loop μ-loop
 add-b c = search needs
@@ -48,7 +48,7 @@ loop-again c =
     let l = c .before .before .before .before .before .before .loop in
     let q = c .before .before .put-list in
     let put = subst (λ (j : ℕ). PutIn (listBytes (listOf (a .counts .now) (a .masks .now) j)) (l .here) (q .result) (l .out) (q .last .1 .1 .1 .0)) (c .before .before .before .before .pair-list .ensures .0) (q .ensures) in
-    let m = list-more (λ k. listOf (a .counts .now) (a .masks .now) (pairList (a .a) k)) (a .learners) (listsBytes (rowOf (a .counts .now) (a .masks .now) (a .learners) (a .a))) (a .at) (a .out .now) (l .b) (l .here) (l .out) (l .inv .1 .1 .1) (q .result) (q .last .1 .1 .1 .0) (omega arith) (p .1 .1 .1 .room) put in
+    let m = list-more (λ k. listOf (a .counts .now) (a .masks .now) (pairList (a .a) k)) (a .learners) (listsBytes (rowOf (a .counts .now) (a .masks .now) (a .learners) (a .a))) (a .at) (a .out .now) (l .b) (l .here) (l .out) (l .inv .1 .1 .1) (q .result) (q .last .1 .1 .1 .0) (omega arith) (p .1 .1 .room) put in
     (omega arith, (omega arith, (search needs, m)))
 
 same-length : tie.Need-same-length Inv-loop μ-loop

@@ -27,9 +27,9 @@ put-row-requires c κs =
     let x = c .before .before .before .before .before .before .args in
     let p = c .before .before .before .before .before .before .pre in
     let l = c .before .before .loop in
-    let m = row-room (λ a b. listOf (x .counts .now) (x .masks .now) (pairList a b)) (x .learners) (rowsBytes (rowsOf (x .counts .now) (x .masks .now) (x .learners))) (x .at) (x .out .now) (l .a) (l .here) (l .out) (l .inv .1 .1) (omega arith) (p .1 .1 .room) in
+    let m = row-room (λ a b. listOf (x .counts .now) (x .masks .now) (pairList a b)) (x .learners) (rowsBytes (rowsOf (x .counts .now) (x .masks .now) (x .learners))) (x .at) (x .out .now) (l .a) (l .here) (l .out) (l .inv .1 .1) (omega arith) (p .1 .room) in
     let e = l .inv .1 .0 in
-    (omega arith, (p .0, (p .1 .0, record { fit = p .1 .1 .fit; room = omega arith })))
+    (omega arith, (p .0, record { fit = p .1 .fit; room = omega arith }))
 
 add-a : tie.Need-add-a Inv-loop μ-loop
 add-a c = search needs
@@ -43,7 +43,7 @@ loop-again c =
     let p = c .before .before .before .before .before .before .before .before .before .pre in
     let l = c .before .before .before .before .before .loop in
     let q = c .before .before .put-row in
-    let m = row-more (λ a b. listOf (x .counts .now) (x .masks .now) (pairList a b)) (x .learners) (rowsBytes (rowsOf (x .counts .now) (x .masks .now) (x .learners))) (x .at) (x .out .now) (l .a) (l .here) (l .out) (l .inv .1 .1) (q .result) (q .last .1 .1 .1 .1 .0) (omega arith) (p .1 .1 .room) (q .ensures) in
+    let m = row-more (λ a b. listOf (x .counts .now) (x .masks .now) (pairList a b)) (x .learners) (rowsBytes (rowsOf (x .counts .now) (x .masks .now) (x .learners))) (x .at) (x .out .now) (l .a) (l .here) (l .out) (l .inv .1 .1) (q .result) (q .last .1 .1 .1 .1 .0) (omega arith) (p .1 .room) (q .ensures) in
     (omega arith, (search needs, m))
 
 same-length : tie.Need-same-length Inv-loop μ-loop
