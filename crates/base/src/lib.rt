@@ -23,6 +23,13 @@ pub fn wide(x: u8) -> u64
     x as u64
 }
 
+// A byte in a 32-bit word.
+pub fn wide32(x: u8) -> u32
+    ensures { λ r. ⌜ (r ≡ x) × (r < 256) ⌝ }
+{
+    x as u32
+}
+
 // The value of a ballot: its lower 32 bits.
 pub fn value(ballot: u64) -> u64
     ensures { λ r. ⌜ r ≡ valueOf ballot ⌝ }
@@ -36,6 +43,14 @@ pub fn read16(s: &[u8], at: usize) -> usize
     ensures { λ r. ⌜ (r ≡ be 2 (now (s .entry)) at) × (r < 65536) ⌝ }
 {
     (size(s[at]) << 8) | size(s[at + 1])
+}
+
+// The number in four bytes.
+pub fn read32(s: &[u8], at: usize) -> u32
+    requires { ⌜ at + 4 ≤ length (now s) ⌝ }
+    ensures { λ r. ⌜ r ≡ be 4 (now (s .entry)) at ⌝ }
+{
+    (wide32(s[at]) << 24) | (wide32(s[at + 1]) << 16) | (wide32(s[at + 2]) << 8) | wide32(s[at + 3])
 }
 
 // The number in eight bytes.
@@ -68,6 +83,17 @@ pub fn put16(buf: &mut [u8], at: usize, x: usize)
 {
     buf[at] = (x >> 8) as u8;
     buf[at + 1] = (x & 255) as u8;
+}
+
+// A number put in as four bytes.
+pub fn put32(buf: &mut [u8], at: usize, x: u32)
+    requires { ⌜ at + 4 ≤ length (now buf) ⌝ }
+    ensures { λ _. ⌜ now (buf .exit) ≡ putAt (now (buf .entry)) at (bytes 4 x) ⌝ }
+{
+    buf[at] = (x >> 24) as u8;
+    buf[at + 1] = ((x >> 16) & 255) as u8;
+    buf[at + 2] = ((x >> 8) & 255) as u8;
+    buf[at + 3] = (x & 255) as u8;
 }
 
 // A number put in as eight bytes.

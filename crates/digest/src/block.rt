@@ -10,7 +10,7 @@ use crate::functions::ch;
 use crate::functions::maj;
 use crate::functions::small_sigma0;
 use crate::functions::small_sigma1;
-use crate::words::read_word;
+use base::read32;
 
 // Step 1: the message schedule of a block.
 fn schedule_of(block: &[u8]) -> [u32; 64]
@@ -20,7 +20,7 @@ fn schedule_of(block: &[u8]) -> [u32; 64]
     let mut w = [0u32; 64];
     let mut t: usize = 0;
     while t < 16 {
-        w[t] = read_word(block, 4 * t);
+        w[t] = read32(block, 4 * t);
         t += 1;
     }
     let mut u: usize = 16;

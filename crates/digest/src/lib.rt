@@ -4,17 +4,16 @@ ghost use Prim.Native.Nat.{_/_};
 ghost use lib.ListN.{length};
 ghost use Rattle.digest.specs.Preprocessing.{padded, initial};
 ghost use Rattle.digest.specs.Sha256.{hash, joined, sha256};
+use base::put32;
 use block::compress;
 use constants::START;
 use padding::last_blocks;
 use padding::last_size;
-use words::put_word;
 
 mod block;
 mod constants;
 mod functions;
 mod padding;
-mod words;
 
 // The eight words of a hash value, and the eight working variables.
 pub struct State {
@@ -84,13 +83,13 @@ fn bytes_of(value: State) -> [u8; 32]
     ensures { λ r. ⌜ r ≡ joined value ⌝ }
 {
     let mut out = [0u8; 32];
-    put_word(&mut out, 0, value.a);
-    put_word(&mut out, 4, value.b);
-    put_word(&mut out, 8, value.c);
-    put_word(&mut out, 12, value.d);
-    put_word(&mut out, 16, value.e);
-    put_word(&mut out, 20, value.f);
-    put_word(&mut out, 24, value.g);
-    put_word(&mut out, 28, value.h);
+    put32(&mut out, 0, value.a);
+    put32(&mut out, 4, value.b);
+    put32(&mut out, 8, value.c);
+    put32(&mut out, 12, value.d);
+    put32(&mut out, 16, value.e);
+    put32(&mut out, 20, value.f);
+    put32(&mut out, 24, value.g);
+    put32(&mut out, 28, value.h);
     out
 }

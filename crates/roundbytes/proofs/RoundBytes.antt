@@ -1,8 +1,8 @@
 -- Laws of the layout: numbers one behind the other; a round that is written reads back, and bytes that are read are written again.
 use mathlib.Core.Path.{_≡_, refl, sym, ap, ap₂, _∙_}
 use mathlib.Core.List.{List, [], _∷_, _++_, append-assoc, append-nil}
-use Prim.Native.Nat.{ℕ, zero, suc, _+_, _-_, _*_, _/_, _%_, _^_, _≤_, _<_}
-use native.Mathlib.Nat.{add-zero, add-comm, mul-suc}
+use Prim.Native.Nat.{ℕ, zero, suc, _+_, _-_, _*_, _^_, _≤_, _<_}
+use native.Mathlib.Nat.{add-comm, mul-suc}
 use native.Mathlib.Numerals.{add-one}
 use native.Mathlib.Omega.{arith}
 use lib.ListN.{length, getD, take, drop, length-append}
@@ -28,24 +28,6 @@ pub words-length : (w : ℕ) (l : List ℕ) → length (words w l) ≡ w * lengt
 unfolding words
 words-length w [] = omega arith
 words-length w (x ∷ l) = length-append (bytes w x) (words w l) ∙ ap₂ _+_ (bytes-length w x) (words-length w l) ∙ add-comm w (w * length l) ∙ sym (mul-suc w (length l))
-
--- ---- four bytes as two and two
-pub bytes-four : (x : ℕ) → bytes 2 (x / 65536) ++ bytes 2 (x % 65536) ≡ bytes 4 x
-unfolding bytes
-bytes-four x =
-    let a : x / 65536 / 256 % 256 ≡ x / 256 / 256 / 256 % 256 = omega arith in
-    let b : x / 65536 % 256 ≡ x / 256 / 256 % 256 = omega arith in
-    let c : x % 65536 / 256 % 256 ≡ x / 256 % 256 = omega arith in
-    let d : x % 65536 % 256 ≡ x % 256 = omega arith in
-    λ i. a i ∷ b i ∷ c i ∷ d i ∷ []
-
-pub be-four : (s : List ℕ) (at : ℕ) → be 2 s at * 65536 + be 2 s (at + 2) ≡ be 4 s at
-unfolding be
-be-four s at =
-    let i : getD s (at + 2 + 0) 0 ≡ getD s (at + 2) 0 = ap (λ (k : ℕ). getD s k 0) (add-zero (at + 2)) in
-    let e : at + 2 + 1 ≡ at + 3 = omega arith in
-    let j : getD s (at + 2 + 1) 0 ≡ getD s (at + 3) 0 = ap (λ (k : ℕ). getD s k 0) e in
-    omega arith
 
 -- ---- how long the parts are
 pub long : (a b : List ℕ) (m n : ℕ) → length a ≡ m → length b ≡ n → length (a ++ b) ≡ m + n

@@ -2,7 +2,9 @@
 use base::put_all;
 use base::put8;
 use base::put16;
+use base::put32;
 use base::read16;
+use base::read32;
 use base::read64;
 use graph::Graph;
 ghost use mathlib.Core.Path.{_≡_};
@@ -61,25 +63,6 @@ pub fn word16(s: &[u8], at: usize) -> u16
     read16(s, at) as u16
 }
 
-// A four-byte number.
-fn word32(s: &[u8], at: usize) -> u32
-    requires { ⌜ at + 4 ≤ length (now s) ⌝ }
-    ensures { λ r. ⌜ r ≡ be 4 (now (s .entry)) at ⌝ }
-{
-    let high = read16(s, at);
-    let low = read16(s, at + 2);
-    (high * 65536 + low) as u32
-}
-
-// A number put in as four bytes.
-fn put32(buf: &mut [u8], at: usize, x: u32)
-    requires { ⌜ at + 4 ≤ length (now buf) ⌝ }
-    ensures { λ _. ⌜ now (buf .exit) ≡ putAt (now (buf .entry)) at (bytes 4 x) ⌝ }
-{
-    put16(buf, at, (x >> 16) as usize);
-    put16(buf, at + 2, (x & 65535) as usize);
-}
-
 // ---- arrays read
 pub fn masks_in(s: &[u8]) -> [u32; 352]
     requires { ⌜ 1454 ≤ length (now s) ⌝ }
@@ -88,7 +71,7 @@ pub fn masks_in(s: &[u8]) -> [u32; 352]
     let mut out = [0u32; 352];
     let mut i: usize = 0;
     while i < 352 {
-        out[i] = word32(s, MASKS_AT + 4 * i);
+        out[i] = read32(s, MASKS_AT + 4 * i);
         i += 1;
     }
     out

@@ -21,14 +21,14 @@ loop-holds : tie.Need-loop-holds Inv-loop μ-loop
 unfolding numbers
 loop-holds c = (omega arith, (refl, refl))
 
-mul-word32 : tie.Need-mul-word32 Inv-loop μ-loop
-mul-word32 c = search needs
+mul-read32 : tie.Need-mul-read32 Inv-loop μ-loop
+mul-read32 c = search needs
 
-add-word32 : tie.Need-add-word32 Inv-loop μ-loop
-add-word32 c = search needs
+add-read32 : tie.Need-add-read32 Inv-loop μ-loop
+add-read32 c = search needs
 
-word32-requires : tie.Need-word32-requires Inv-loop μ-loop
-word32-requires c κs = search needs
+read32-requires : tie.Need-read32-requires Inv-loop μ-loop
+read32-requires c κs = search needs
 
 mul-out : tie.Need-mul-out Inv-loop μ-loop
 mul-out c = search needs
@@ -46,12 +46,12 @@ loop-again : tie.Need-loop-again Inv-loop μ-loop
 unfolding numbers
 loop-again c = let a = c .before .before .before .before .args in
     let l = c .before .before .loop in
-    let x = c .word32 .result in (
+    let x = c .read32 .result in (
       omega arith,
       (
         length-set (l .out) (l .i) x ∙ l .inv .1 .0,
         ap (λ (n : ℕ). take n (set (l .out) (l .i) x)) (add-one (l .i)) ∙ take-suc-set (l .out) (l .i) x (omega arith)
-            ∙ ap₂ (λ (p : List ℕ) (y : ℕ). p ++ (y ∷ [])) (l .inv .1 .1) (c .word32 .ensures)
+            ∙ ap₂ (λ (p : List ℕ) (y : ℕ). p ++ (y ∷ [])) (l .inv .1 .1) (c .read32 .ensures)
             ∙ sym (ap (λ (n : ℕ). numbers 4 n (a .s .now) 46) (add-one (l .i))),
       ),
     )
@@ -69,9 +69,9 @@ masks-in-spec =
     Inv-loop
     μ-loop
     loop-holds
-    mul-word32
-    add-word32
-    word32-requires
+    mul-read32
+    add-read32
+    read32-requires
     mul-out
     array-write-out
     add-i

@@ -30,11 +30,11 @@ loop-holds : tie.Need-loop-holds Inv-loop μ-loop Inv-loop2 μ-loop2
 unfolding words
 loop-holds c = (omega arith, (refl, refl))
 
-mul-read-word : tie.Need-mul-read-word Inv-loop μ-loop Inv-loop2 μ-loop2
-mul-read-word c = search needs
+mul-read32 : tie.Need-mul-read32 Inv-loop μ-loop Inv-loop2 μ-loop2
+mul-read32 c = search needs
 
-read-word-requires : tie.Need-read-word-requires Inv-loop μ-loop Inv-loop2 μ-loop2
-read-word-requires c κs = search needs
+read32-requires : tie.Need-read32-requires Inv-loop μ-loop Inv-loop2 μ-loop2
+read32-requires c κs = search needs
 
 mul-w : tie.Need-mul-w Inv-loop μ-loop Inv-loop2 μ-loop2
 mul-w c = search needs
@@ -53,13 +53,13 @@ unfolding words
 loop-again c =
     let b = c .before .before .before .before .args .block .now in
     let l = c .before .before .loop in
-    let x = c .read-word .result in
+    let x = c .read32 .result in
     let step : take (suc (l .t)) (set (l .w) (l .t) x) ≡ take (l .t) (l .w) ++ (x ∷ []) = take-suc-set (l .w) (l .t) x (omega (arith, l .inv .1 .0)) in (
       omega arith,
       (
         length-set (l .w) (l .t) x ∙ l .inv .1 .0,
         ap (λ (n : ℕ). take n (set (l .w) (l .t) x)) (add-one (l .t)) ∙ step
-            ∙ ap₂ (λ (p : List ℕ) (y : ℕ). p ++ (y ∷ [])) (l .inv .1 .1) (c .read-word .ensures)
+            ∙ ap₂ (λ (p : List ℕ) (y : ℕ). p ++ (y ∷ [])) (l .inv .1 .1) (c .read32 .ensures)
             ∙ sym (ap (λ (n : ℕ). words n b) (add-one (l .t))),
       ),
     )
@@ -191,8 +191,8 @@ schedule-of-spec =
     Inv-loop2
     μ-loop2
     loop-holds
-    mul-read-word
-    read-word-requires
+    mul-read32
+    read32-requires
     mul-w
     array-write-w
     add-t

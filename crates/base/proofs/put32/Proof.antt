@@ -4,11 +4,11 @@ use Prim.Native.Nat.{suc, _+_, _/_, _%_, _^_}
 use lib.ListN.{set, length-set}
 use lib.Seq.{sets-eq}
 use lib.Bits.{bitAnd, mask-lt, and-mask}
 use Rattle.base.specs.Bytes.{bytes}
 use borrow.Author.Needs.{needs}
 use native.Mathlib.Omega.{arith}
-use Rattle.digest.proofs.words.put_word.Statement.{statement}
-use Rattle.digest.proofs.words.put_word.Tie as tie
+use Rattle.base.proofs.put32.Statement.{statement}
+use Rattle.base.proofs.put32.Tie as tie
 
 cast-buf : tie.Need-cast-buf
 cast-buf c = search needs
@@ -61,8 +61,8 @@ returns c = let x = c .args .x in
     (λ i. set (set (set (set b at (v0 i)) (i1 i) (v1 i)) (i2 i) (v2 i)) (i3 i) (v3 i))
     ∙ sets-eq (x / 256 / 256 / 256 % 256 ∷ x / 256 / 256 % 256 ∷ x / 256 % 256 ∷ x % 256 ∷ []) b at (c .pre)
 
-pub put-word-spec : {M : Type 1} → statement M
-put-word-spec =
+pub put32-spec : {M : Type 1} → statement M
+put32-spec =
     tie.close
     (tie.spec
     cast-buf
