@@ -1,4 +1,4 @@
--- The tests of a round over its arrays, lent one by one
-pub mod Lent
+-- Ids compared, and the places that they name
+pub mod Finding
 -- A start is what the rules say of an opening
 pub mod Opening

@@ -1,2 +1,4 @@
--- The tests of a round over its arrays, lent one by one
-pub mod Lent
+-- What the look-ups ask for and answer
+pub mod Finding
+-- What a round holds of an acceptor message whose ids were looked up
+pub mod Votes

@@ -1,93 +1,109 @@
-// Rows 10 to 12 of the table "When a call is turned down", over lent arrays of a round. Rows 8, 9 and 16 compare numbers, and stand in the crate
+// Rows 10 to 12 of the table "When a call is turned down", over the bytes s of a round. Rows 8, 9 and 16 compare numbers, and stand in the crate
 // `order`; the rows that ask what a message means are worked out by the crate `derive`.
 use crate::lookup::Found;
 use crate::lookup::place_at;
-use crate::lookup::place_of;
 use crate::lookup::same_id;
+use message::AcceptorMessage;
+use message::layout::ID_LEN;
+use message::layout::PREVIOUS_AT;
+use message::layout::PROPOSAL;
+use message::layout::references_at;
+use round::MAX_HELD;
+use round::NO_PLACE;
+use roundbytes::readers::kind_at;
+use roundbytes::readers::known_at;
+use roundbytes::readers::signer_at;
 ghost use mathlib.Core.Path.{_≡_};
-ghost use mathlib.Core.Bool.{true};
+ghost use mathlib.Core.Bool.{false, not};
 ghost use Prim.Native.Nat.{_+_, _*_, _≤_, _<_};
 ghost use lib.ListN.{length, take};
-ghost use Rattle.base.specs.Tests.{any, all};
+ghost use Rattle.base.specs.Tests.{any};
 ghost use Rattle.base.specs.Bytes.{part};
+ghost use Rattle.message.specs.Layout.{idLen};
 ghost use Rattle.protocol.specs.Ids.{sameId};
-ghost use Rattle.message.specs.Layout.{referencesAt};
-ghost use Rattle.round.specs.Rows.{idsFrom};
-ghost use Rattle.admission.specs.Lent.{placesIn, previousIn, isKnownIn, isAwaitedIn, isVoteIn, unchainedIn};
+ghost use Rattle.round.specs.Limits.{maxHeld};
+ghost use Rattle.round.specs.Holdings.{isKnown};
+ghost use Rattle.round.specs.Rows.{idsFrom, referenceIds, previousId, placed, lacks, isVoteOf, unchained};
+ghost use Rattle.round.specs.Delivery.{previousPlace};
+ghost use Rattle.roundbytes.specs.Layout.{roundLen, roundIn};
+ghost use Rattle.admission.specs.Finding.{Bounded, Listed, Inside, placeFound, placesOf};
 
-// Row 10: whether a message is known already.
-pub fn is_known<'a>(ids: &'a [u8], held: usize, known: &'a [u8], id: &'a [u8]) -> bool
-    requires { ⌜ (held ≤ 128) × ((length (now ids) ≡ 4096) × ((length (now known) ≡ 128) × (length (now id) ≡ 32))) ⌝ }
-    ensures { λ r. ⌜ r ≡ isKnownIn (now (ids .entry)) held (now (known .entry)) (now (id .entry)) ⌝ }
+// What a round holds of an acceptor message: the place of its previous message or NO_PLACE, and those of its references, the first `count`.
+pub struct Vote {
+    pub signer: u8,
+    pub previous: u8,
+    pub count: usize,
+    pub places: [u8; MAX_HELD],
+}
+
+// Row 10: whether a message is known already, by what was found for its id.
+pub fn is_known(s: &[u8], found: Found) -> bool
+    requires { ⌜ Bounded (now s) × Inside (roundIn (now s)) found ⌝ }
+    ensures { λ r. ⌜ r ≡ placed (isKnown (roundIn (now (s .entry)))) (placeFound found) ⌝ }
 {
-    let Found::At(p) = place_of(ids, held, id) else {
+    let Found::At(p) = found else {
         return false;
     };
-    known[p] != 0
+    known_at(s, p) != 0
 }
 
 // Whether a message is held and awaits its return.
-pub fn is_awaited<'a>(ids: &'a [u8], held: usize, known: &'a [u8], id: &'a [u8]) -> bool
-    requires { ⌜ (held ≤ 128) × ((length (now ids) ≡ 4096) × ((length (now known) ≡ 128) × (length (now id) ≡ 32))) ⌝ }
-    ensures { λ r. ⌜ r ≡ isAwaitedIn (now (ids .entry)) held (now (known .entry)) (now (id .entry)) ⌝ }
+pub fn is_awaited(s: &[u8], found: Found) -> bool
+    requires { ⌜ Bounded (now s) × Inside (roundIn (now s)) found ⌝ }
+    ensures { λ r. ⌜ r ≡ placed (λ p. not (isKnown (roundIn (now (s .entry))) p)) (placeFound found) ⌝ }
 {
-    let Found::At(p) = place_of(ids, held, id) else {
+    let Found::At(p) = found else {
         return false;
     };
-    known[p] == 0
+    known_at(s, p) == 0
 }
 
-// Where the references of an acceptor message are held, and whether all of them are known. Where one is not, the places say nothing.
-pub struct Resolved {
-    pub known: bool,
-    pub places: [u8; 128],
+// Whether a reference of an acceptor message is not known, and where the references are held. Where one is not known, the places say nothing.
+pub struct References {
+    pub lacking: bool,
+    pub places: [u8; MAX_HELD],
 }
 
-// Row 11: the places of `count` references, which stand in `bytes` from `at` on.
-pub fn resolve<'a>(
-    ids: &'a [u8],
-    held: usize,
-    known: &'a [u8],
-    bytes: &'a [u8],
-    at: usize,
-    count: usize,
-) -> Resolved
-    requires { ⌜ (held ≤ 128) × ((length (now ids) ≡ 4096) × ((length (now known) ≡ 128) × ((count ≤ 128) × (at + 32 * count ≤ length (now bytes))))) ⌝ }
-    ensures all_known { λ r. ⌜ r .known ≡ all (isKnownIn (now (ids .entry)) held (now (known .entry))) (idsFrom count (now (bytes .entry)) at) ⌝ }
-    ensures placed { λ r. ⌜ (r .known ≡ true → take count (r .places) ≡ placesIn (now (ids .entry)) held (idsFrom count (now (bytes .entry)) at)) ⌝ }
+// Row 11: the references of an acceptor message that was read from these bytes.
+pub fn resolve<'a>(s: &'a [u8], bytes: &'a [u8], m: AcceptorMessage) -> References
+    requires { ⌜ Bounded (now s) × Listed (now bytes) m ⌝ }
+    ensures ruled { λ r. ⌜ r .lacking ≡ lacks (roundIn (now (s .entry))) (referenceIds (now (bytes .entry)) m) ⌝ }
+    ensures placed { λ r. ⌜ (r .lacking ≡ false → take (m .count) (r .places) ≡ placesOf (roundIn (now (s .entry))) (referenceIds (now (bytes .entry)) m)) ⌝ }
 {
-    let mut places = [0u8; 128];
+    let at = references_at(m.previous);
+    let count = m.count;
+    let mut places = [0u8; MAX_HELD];
     let mut i: usize = 0;
     while i < count {
-        let Found::At(p) = place_at(ids, held, bytes, at + 32 * i) else {
-            return Resolved {
-                known: false,
+        let Found::At(p) = place_at(s, bytes, at + ID_LEN * i) else {
+            return References {
+                lacking: true,
                 places,
             };
         };
-        if known[p] == 0 {
-            return Resolved {
-                known: false,
+        if known_at(s, p) == 0 {
+            return References {
+                lacking: true,
                 places,
             };
         }
         places[i] = p as u8;
         i += 1;
     }
-    Resolved {
-        known: true,
+    References {
+        lacking: false,
         places,
     }
 }
 
 // Whether the id in `bytes` from `at` on is one of the `count` ids from `first` on.
 fn is_among(bytes: &[u8], at: usize, first: usize, count: usize) -> bool
-    requires { ⌜ (count ≤ 128) × ((at + 32 ≤ length (now bytes)) × (first + 32 * count ≤ length (now bytes))) ⌝ }
-    ensures { λ r. ⌜ r ≡ any (sameId (part 32 (now (bytes .entry)) at)) (idsFrom count (now (bytes .entry)) first) ⌝ }
+    requires { ⌜ (count ≤ maxHeld) × ((at + idLen ≤ length (now bytes)) × (first + idLen * count ≤ length (now bytes))) ⌝ }
+    ensures { λ r. ⌜ r ≡ any (sameId (part idLen (now (bytes .entry)) at)) (idsFrom count (now (bytes .entry)) first) ⌝ }
 {
     let mut i: usize = 0;
     while i < count {
-        if same_id(bytes, at, bytes, first + 32 * i) {
+        if same_id(bytes, at, bytes, first + ID_LEN * i) {
             return true;
         }
         i += 1;
@@ -96,38 +112,49 @@ fn is_among(bytes: &[u8], at: usize, first: usize, count: usize) -> bool
 }
 
 // Whether an acceptor message of a signer is held at a place.
-fn is_vote_of<'a>(kinds: &'a [u8], signers: &'a [u8], p: usize, signer: u8) -> bool
-    requires { ⌜ (p < length (now kinds)) × (p < length (now signers)) ⌝ }
-    ensures { λ r. ⌜ r ≡ isVoteIn (now (kinds .entry)) (now (signers .entry)) signer p ⌝ }
+fn is_vote_of(s: &[u8], p: usize, signer: u8) -> bool
+    requires { ⌜ (roundLen ≤ length (now s)) × (p < maxHeld) ⌝ }
+    ensures { λ r. ⌜ r ≡ isVoteOf (roundIn (now (s .entry))) signer p ⌝ }
 {
-    if kinds[p] == 1 {
+    if kind_at(s, p) == PROPOSAL {
         return false;
     }
-    signers[p] == signer
+    signer_at(s, p) == signer
 }
 
-// Row 12: whether the previous message is not referred to, a proposal, or of another signer.
-pub fn is_unchained<'a>(
-    ids: &'a [u8],
-    held: usize,
-    kinds: &'a [u8],
-    signers: &'a [u8],
-    bytes: &'a [u8],
-    previous: bool,
-    count: usize,
-    signer: u8,
-) -> bool
-    requires { ⌜ (held ≤ 128) × ((length (now ids) ≡ 4096) × ((length (now kinds) ≡ 128) × ((length (now signers) ≡ 128) × ((count ≤ 128) × (referencesAt previous + 32 * count ≤ length (now bytes)))))) ⌝ }
-    ensures { λ r. ⌜ r ≡ unchainedIn (now (ids .entry)) held (now (kinds .entry)) (now (signers .entry)) signer (idsFrom count (now (bytes .entry)) (referencesAt previous)) (previousIn (now (bytes .entry)) previous) ⌝ }
+// Whether the previous message is not referred to, a proposal, or of another signer, and where it is held, or NO_PLACE. Where row 12 applies,
+// the place says nothing.
+pub struct Previous {
+    pub unchained: bool,
+    pub place: u8,
+}
+
+// Row 12: the previous id of an acceptor message that was read from these bytes.
+pub fn previous_of<'a>(s: &'a [u8], bytes: &'a [u8], m: AcceptorMessage) -> Previous
+    requires { ⌜ Bounded (now s) × Listed (now bytes) m ⌝ }
+    ensures ruled { λ r. ⌜ r .unchained ≡ unchained (roundIn (now (s .entry))) (m .signer) (referenceIds (now (bytes .entry)) m) (previousId (now (bytes .entry)) m) ⌝ }
+    ensures placed { λ r. ⌜ (r .unchained ≡ false → r .place ≡ previousPlace (roundIn (now (s .entry))) (previousId (now (bytes .entry)) m)) ⌝ }
 {
-    if !previous {
-        return false;
+    if !m.previous {
+        return Previous {
+            unchained: false,
+            place: NO_PLACE,
+        };
     }
-    if !is_among(bytes, 10, 43, count) {
-        return true;
+    if !is_among(bytes, PREVIOUS_AT, references_at(m.previous), m.count) {
+        return Previous {
+            unchained: true,
+            place: NO_PLACE,
+        };
     }
-    let Found::At(p) = place_at(ids, held, bytes, 10) else {
-        return true;
+    let Found::At(p) = place_at(s, bytes, PREVIOUS_AT) else {
+        return Previous {
+            unchained: true,
+            place: NO_PLACE,
+        };
     };
-    !is_vote_of(kinds, signers, p, signer)
+    Previous {
+        unchained: !is_vote_of(s, p, m.signer),
+        place: p as u8,
+    }
 }

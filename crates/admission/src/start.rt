@@ -1,11 +1,11 @@
 // An opening, after its graph file was accepted.
-use crate::handed::own_fits;
 use base::refusal::Refusal;
 use graph::Graph;
+use round::LISTENING;
 use round::Opening;
 use roundbytes::put_empty;
 ghost use mathlib.Core.Path.{_≡_};
-ghost use mathlib.Core.Bool.{_||_};
+ghost use mathlib.Core.Bool.{not, _||_};
 ghost use Prim.Native.Nat.{_≤_};
 ghost use lib.Dec.{ltb, leb};
 ghost use lib.ListN.{length};
@@ -16,6 +16,17 @@ ghost use Rattle.round.specs.Limits.{noPlace, listening};
 ghost use Rattle.round.specs.Opening.{emptyRound};
 ghost use Rattle.roundbytes.specs.Layout.{roundLen};
 ghost use Rattle.roundbytes.specs.Opening.{openedTo};
+
+// Whether an own acceptor number is in the graph; LISTENING and more stand for none.
+pub fn own_fits(own: u16, acceptors: u8) -> bool
+    ensures { λ r. ⌜ r ≡ (not (ltb own listening) || ltb own acceptors) ⌝ }
+{
+    if own < LISTENING {
+        own < acceptors as u16
+    } else {
+        true
+    }
+}
 
 // Puts the opened round, which holds no message, to the front of a buffer. An acceptor number that the graph lacks is refused, and then no
 // byte is written.

@@ -1,57 +1,86 @@
 -- A reply that was formed is that of the round, and what follows on it.
-use mathlib.Core.Path.{_≡_, refl, ap, ap₂, sym, subst, _∙_}
-use mathlib.Core.Bool.{Bool, true, false, _&&_}
-use mathlib.Core.List.{List, [], _++_}
-use Prim.Native.Nat.{ℕ, _+_, _-_, _≤_}
+use Prim.Native.Nat.{ℕ, _<_, _≤_, _-_, _+_}
+use mathlib.Core.Path.{_≡_, ap, _∙_, subst, sym, ap₂, refl}
+use lib.ListN.{length, length-append, drop, take}
 use native.Mathlib.Omega.{arith}
-use lib.ListN.{length, take, drop, length-append}
+use mathlib.Core.List.{List, _++_, []}
+use lib.Dec.{T}
 use lib.Seq.{take-at}
-use Rattle.base.specs.Tests.{_∈_, pick}
-use Rattle.message.specs.Writer.{fronted}
+use mathlib.Core.Bool.{Bool, true, false, _&&_}
+use borrow.Author.Tests.{le-ltb, lt-ltb}
 use Rattle.round.specs.Round.{Round}
-use Rattle.round.specs.Delivery.{Delivered}
-use Rattle.protocol.specs.Message.{Message}
-use Rattle.notes.specs.declared.Note.{Note}
-use Rattle.notes.specs.Notes.{Judged}
-use Rattle.round.specs.Held.{graphOf}
-use Rattle.round.specs.Reply.{replyPlaces, replyBytes, isSent}
-use Rattle.round.specs.Delivery.{Result}
-use Rattle.round.proofs.Chosen.{chosen-out}
-use Rattle.roundbytes.specs.Layout.{roundLen, Kept}
+use Rattle.round.proofs.Fitting.{Fitting}
 use Rattle.holding.specs.declared.reply.Reply.{Reply}
-use Rattle.holding.specs.Sender.{sender, filled, replyAs}
-use Rattle.answering.specs.Giving.{Gives, Formed}
-use Rattle.judging.specs.Referring.{Earlier}
-use Rattle.holding.proofs.Sender.{chosen-length, filled-front, filled-length, reply-places, reply-lent}
+use Rattle.holding.specs.Replying.{replyOf}
+use Rattle.round.specs.Reply.{replyPlaces, replyRecord, replyBytes, isSent}
+use Rattle.round.proofs.Chosen.{chosen-most, reply-some, chosen-out}
+use Rattle.admission.specs.Votes.{refersTo, recordOf}
+use Rattle.holding.proofs.Replying.{filled-front, filled-length}
+use Rattle.round.specs.Delivery.{previousPlace, Result, Delivered, processed, answered}
+use Rattle.round.specs.Holdings.{named, isVoting, graphOf}
+use Rattle.round.proofs.Marking.{previous-named, named-placed, previous-fits}
+use Rattle.protocol.specs.Ids.{Id}
+use Rattle.protocol.specs.Table.{says}
+use Rattle.judging.specs.Referring.{Referring}
+use Rattle.base.specs.Tests.{_∈_, pick}
+use Rattle.round.specs.Handed.{placeFits}
+use Rattle.message.specs.Writer.{fronted}
+use Rattle.judging.proofs.Ordered.{front-part}
+use Rattle.answering.specs.Giving.{Gives, left}
+use Rattle.round.specs.Limits.{listening}
+use Rattle.roundbytes.specs.Layout.{roundIn, Kept, roundLen}
+use Rattle.round.specs.declared.Outcome.the-variants.{Accepted}
+use Rattle.protocol.specs.Message.{Message}
+use Rattle.meaning.specs.declared.Note.{Note}
+use Rattle.meaning.specs.Notes.{Judged}
 
-abbrev pub lentBy : Round → ℕ → Round
-lentBy r n = sender (r .house) (r .bay) (r .own) (r .last) (r .ids) (r .recent) n
+-- ---- z, the reply of a round to the message at place p
+module _ (r : Round) (f : Fitting r) (p : ℕ) (here : p < r .held) (z : Reply) (is : z ≡ replyOf r p) where
+  few : length (replyPlaces r p) ≤ r .held
+  few = chosen-most r p (r .held)
 
--- a reply formed over what the round lends
-pub formed : (r : Round) (p : ℕ) (l : Round) (x : Reply) (buffer after : List ℕ) → l ≡ lentBy r (r .held)
-    → x ≡ replyAs (replyPlaces l p) (replyBytes l p) → after ≡ fronted (replyBytes l p) buffer → Formed r p x after
-formed r p l x buffer after e f g =
-    let z : replyBytes l p ≡ replyBytes r p = ap (λ (k : Round). replyBytes k p) e ∙ sym (reply-lent r p) in
-    let q : replyPlaces l p ≡ replyPlaces r p = ap (λ (k : Round). replyPlaces k p) e ∙ reply-places (lentBy r (r .held)) p ∙ sym (reply-places r p) in
-    let a : after ≡ replyBytes r p ++ drop (length (replyBytes r p)) buffer = g ∙ ap (λ (y : List ℕ). fronted y buffer) z in
-    let long : x .len ≡ length (replyBytes r p) = ap (λ (y : Reply). y .len) f ∙ ap length z in
-    let counted : x .count ≡ length (replyPlaces r p) = ap (λ (y : Reply). y .count) f ∙ ap length q in
-    let placed : x .places ≡ filled (replyPlaces r p) = ap (λ (y : Reply). y .places) f ∙ ap filled q in
-    let size : length after ≡ length (replyBytes r p) + length (drop (length (replyBytes r p)) buffer) =
-    ap length a ∙ length-append (replyBytes r p) (drop (length (replyBytes r p)) buffer) in
-    let few = chosen-length r p (r .held) in
-    record {
-      front = ap₂ take long a ∙ take-at (replyBytes r p) (drop (length (replyBytes r p)) buffer) (length (replyBytes r p)) refl;
-      long = long;
-      short = omega arith;
-      listed = ap₂ take counted placed ∙ filled-front (replyPlaces r p);
-      most = omega arith;
-      whole = λ h. ap length placed ∙ filled-length (replyPlaces r p) (omega arith);
-    }
+  listed : refersTo (z .vote) ≡ replyPlaces r p
+  listed = ap (λ (x : Reply). refersTo (x .vote)) is ∙ filled-front (replyPlaces r p)
 
--- the places that a reply refers to are held
-pub refers-held : (r : Round) (p : ℕ) (l : List ℕ) → l ≡ replyPlaces r p → Earlier r l
-refers-held r p l e j m = chosen-out r p (r .held) j (subst (λ (y : List ℕ). j ∈ y) e m) .inside
+  back : z .vote .previous ≡ previousPlace r (named r (r .last))
+  back = ap (λ (x : Reply). x .vote .previous) is
+
+  last : named r (z .vote .previous) ≡ named r (r .last)
+  last = ap (named r) back ∙ previous-named r (f .most) (named r (r .last)) (named-placed r (r .last) (f .last))
+
+  -- it is the record of the reply
+  pub reply-record : (i : Id) → recordOf r i (z .vote) ≡ replyRecord r i p
+  reply-record i = λ k. says i (is k .vote .signer) (last k) (listed k)
+
+  -- it refers to held messages
+  pub reply-refers : Referring r (z .vote)
+  reply-refers =
+      let n : z .vote .count ≡ length (replyPlaces r p) = ap (λ (x : Reply). x .vote .count) is in
+      let some = reply-some r p here in
+      let most = f .most in
+      let least = few in
+      record {
+        least = omega arith;
+        most = omega arith;
+        whole = ap (λ (x : Reply). length (x .vote .places)) is ∙ filled-length (replyPlaces r p) (omega arith);
+        earlier = λ j m. chosen-out r p (r .held) j (subst (λ (y : List ℕ). j ∈ y) listed m) .inside;
+        placed = subst (λ (q : ℕ). T (placeFits r q)) (sym back) (previous-fits r (named r (r .last)) (named-placed r (r .last) (f .last)));
+        lowest = back ∙ sym (ap (previousPlace r) last);
+      }
+
+  -- its bytes stand at the front of the buffer that it was formed in
+  module _ (before after : List ℕ) (put : after ≡ fronted (replyBytes r p) before) where
+    pub reply-long : z .len ≡ length (replyBytes r p)
+    reply-long = ap (λ (x : Reply). x .len) is
+
+    pub reply-within : z .len ≤ length after
+    reply-within =
+        let e = ap length put ∙ length-append (replyBytes r p) (drop (length (replyBytes r p)) before) in
+        let n = reply-long in
+        omega arith
+
+    pub reply-front : take (z .len - 0) (drop 0 after) ≡ replyBytes r p
+    reply-front = front-part (z .len) after ∙ ap₂ take reply-long put ∙ take-at (replyBytes r p) (drop (length (replyBytes r p)) before) (length (replyBytes r p)) refl
 
 -- what is written to the front of the buffer
 pub put-front : (z b : List ℕ) → take 0 b ++ z ++ drop (0 + length z) b ≡ fronted z b
@@ -67,6 +96,18 @@ gives-second b x y r before after e h = subst (λ (t : Bool). Gives (pick t x y)
 -- nothing is written
 pub front-none : (b : List ℕ) → b ≡ fronted [] b
 front-none b = refl
+
+-- ---- what follows on the message at place p: a round that listens sends nothing, one that votes answers
+pub process-listening : (H : List ℕ → Id) (s : List ℕ) (p : ℕ) (before : List ℕ) → listening ≤ roundIn s .own → Gives (processed H (roundIn s) p) (left Accepted s) before before
+unfolding processed
+process-listening H s p before h =
+    let r = roundIn s in
+    gives-second (isVoting r) (answered H r p (replyBytes r p)) (record { outcome = Accepted; round = r; reply = [] }) (left Accepted s) before before (le-ltb (r .own) listening h) (refl, front-none before)
+
+pub process-voting : (H : List ℕ → Id) (r : Round) (p : ℕ) (x : Delivered) (before after : List ℕ) → r .own < listening → Gives (answered H r p (replyBytes r p)) x before after → Gives (processed H r p) x before after
+unfolding processed
+process-voting H r p x before after h g =
+    gives-first (isVoting r) (answered H r p (replyBytes r p)) (record { outcome = Accepted; round = r; reply = [] }) x before after (lt-ltb (r .own) listening h) g
 
 -- z is sent where it is well-formed as a 1b and as a 2a
 pub sent-judged : (r : Round) (m : Message) (x : Note) → Judged (graphOf r) m x → (x .formed1b && x .formed2a) ≡ isSent r m

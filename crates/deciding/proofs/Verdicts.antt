@@ -18,9 +18,13 @@ use Rattle.protocol.specs.Table.{Table, at, heldSigner}
 use Rattle.protocol.specs.Places.{is2aAt, ballotAt, lrnsAt, decidesAt, reportAt}
 use Rattle.protocol.proofs.PlacesLearners.{decides-at, DecidingAt, report-at}
 use Rattle.deciding.specs.declared.Least.{Least}
-use Rattle.deciding.specs.declared.Verdict.the-variants.{Undecided, Decided, Split}
-use Rattle.deciding.specs.Deciding.{isKnownIn, isKnown2a, isVoter, votersFor, isDeciding, lowered, leastOf, shown}
-use Rattle.notes.specs.Notes.{Known}
+use Rattle.round.specs.Round.{Round}
+use Rattle.round.specs.declared.Report.the-variants.{Undecided, Decided, Split}
+use Rattle.round.specs.Holdings.{graphOf, signerAt, isKnown}
+use Rattle.round.specs.Report.{told}
+use Rattle.notes.specs.Layout.{WordNotes, ByteNotes}
+use Rattle.meaning.specs.Notes.{AllNoted}
+use Rattle.deciding.specs.Deciding.{isKnown2a, isVoter, votersFor, isDeciding, lowered, leastOf}
 
 -- ---- the least of the numbers that pass
 record LeastIs (test : ℕ → Bool) (f : ℕ → ℕ) (n : ℕ) (r : Least) : Type 0 where
@@ -76,59 +80,65 @@ front : (r a b c d : Bool) → (r && a && b && c && d) ≡ (r && (a && b && c &&
 front true a b c d = refl
 front false a b c d = refl
 
-module _ (G : LearnerGraph) (t : Table) (kinds signers low high forkLow forkHigh tops learners freshes forms known : List ℕ)
-    (kn : Known G t kinds signers low high forkLow forkHigh tops learners freshes forms) (n a : ℕ) (size : length t ≡ n) (la : a < G .learners) where
+module _ (t : Table) (rn : Round) (wn : WordNotes) (bn : ByteNotes)
+    (kn : AllNoted (graphOf rn) t rn wn bn) (a : ℕ) (size : length t ≡ rn .held) (la : a < graphOf rn .learners) where
+  abbrev G : LearnerGraph
+  G = graphOf rn
+
+  abbrev n : ℕ
+  n = rn .held
+
   abbrev ks : List ℕ
-  ks = filter (isKnownIn known) (below n)
+  ks = filter (isKnown rn) (below n)
 
   abbrev D : ℕ → Type 0
   D = DecidingAt t G ks a
 
-  decides-told : (x : ℕ) → isQuorum G a (votersFor known forms learners tops signers n a x) ≡ decidesAt t G ks a x
+  decides-told : (x : ℕ) → isQuorum G a (votersFor rn wn bn a x) ≡ decidesAt t G ks a x
   decides-told x =
-      quorum-cong G a (votersFor known forms learners tops signers n a x) (λ p. any (λ j. is2aAt t j && eqb (ballotAt t j) x && lrnsAt t G j a && eqb (heldSigner (at t j)) p) ks)
+      quorum-cong G a (votersFor rn wn bn a x) (λ p. any (λ j. is2aAt t j && eqb (ballotAt t j) x && lrnsAt t G j a && eqb (heldSigner (at t j)) p) ks)
       (λ p l. any-cong _ _ (below n) (λ j m. step j p (let g = below-out n m in omega arith))
-      ∙ sym (any-filter (λ j. is2aAt t j && eqb (ballotAt t j) x && lrnsAt t G j a && eqb (heldSigner (at t j)) p) (isKnownIn known) (below n)))
+      ∙ sym (any-filter (λ j. is2aAt t j && eqb (ballotAt t j) x && lrnsAt t G j a && eqb (heldSigner (at t j)) p) (isKnown rn) (below n)))
       ∙ sym (decides-at t G ks a x)
     where
-      step : (j p : ℕ) → j < length t → (isVoter known forms learners tops a x j && eqb (getD signers j 0) p)
-          ≡ (isKnownIn known j && (is2aAt t j && eqb (ballotAt t j) x && lrnsAt t G j a && eqb (heldSigner (at t j)) p))
+      step : (j p : ℕ) → j < length t → (isVoter rn wn bn a x j && eqb (signerAt rn j) p)
+          ≡ (isKnown rn j && (is2aAt t j && eqb (ballotAt t j) x && lrnsAt t G j a && eqb (heldSigner (at t j)) p))
       step j p l =
-          (λ e. isKnownIn known j && kn .noted j l .second e && eqb (kn .noted j l .ballot e) x && kn .noted j l .learning a la e && eqb (kn .signer j l e) p)
-          ∙ front (isKnownIn known j) (is2aAt t j) (eqb (ballotAt t j) x) (lrnsAt t G j a) (eqb (heldSigner (at t j)) p)
+          (λ e. isKnown rn j && kn .noted j l .second e && eqb (kn .noted j l .ballot e) x && kn .noted j l .learning a la e && eqb (kn .signer j l e) p)
+          ∙ front (isKnown rn j) (is2aAt t j) (eqb (ballotAt t j) x) (lrnsAt t G j a) (eqb (heldSigner (at t j)) p)
 
   module _ (other : Bool) (v : ℕ) where
     abbrev test : ℕ → Bool
-    test = isDeciding G known forms learners tops signers n a other v
+    test = isDeciding rn wn bn a other v
 
     abbrev top : ℕ → ℕ
-    top j = getD tops j 0
+    top j = getD (wn .tops) j 0
 
     test-in : (j : ℕ) → j < n → T (test j) → D (top j) × (T other → valueOf (top j) ≢ v)
     test-in j l h =
-        let k : T (isKnown2a known forms j && isQuorum G a (votersFor known forms learners tops signers n a (top j))) = and-l (isKnown2a known forms j && isQuorum G a (votersFor known forms learners tops signers n a (top j))) (not other || not (eqb (valueOf (top j)) v)) h in
-        let o : T (not other || not (eqb (valueOf (top j)) v)) = and-r (isKnown2a known forms j && isQuorum G a (votersFor known forms learners tops signers n a (top j))) (not other || not (eqb (valueOf (top j)) v)) h in
-        let w : T (isKnown2a known forms j) = and-l (isKnown2a known forms j) (isQuorum G a (votersFor known forms learners tops signers n a (top j))) k in
-        let q : T (isQuorum G a (votersFor known forms learners tops signers n a (top j))) = and-r (isKnown2a known forms j) (isQuorum G a (votersFor known forms learners tops signers n a (top j))) k in
+        let k : T (isKnown2a rn bn j && isQuorum G a (votersFor rn wn bn a (top j))) = and-l (isKnown2a rn bn j && isQuorum G a (votersFor rn wn bn a (top j))) (not other || not (eqb (valueOf (top j)) v)) h in
+        let o : T (not other || not (eqb (valueOf (top j)) v)) = and-r (isKnown2a rn bn j && isQuorum G a (votersFor rn wn bn a (top j))) (not other || not (eqb (valueOf (top j)) v)) h in
+        let w : T (isKnown2a rn bn j) = and-l (isKnown2a rn bn j) (isQuorum G a (votersFor rn wn bn a (top j))) k in
+        let q : T (isQuorum G a (votersFor rn wn bn a (top j))) = and-r (isKnown2a rn bn j) (isQuorum G a (votersFor rn wn bn a (top j))) k in
         let lt : j < length t = omega arith in
-        let two : T (is2aAt t j) = subst T (kn .noted j lt .second) (and-r (isKnownIn known j) (eqb (getD forms j 0) 2) w) in (
-          (subst T (decides-told (top j)) q, (j, filter-in (isKnownIn known) (below-in n l) (and-l (isKnownIn known j) (eqb (getD forms j 0) 2) w), two, sym (kn .noted j lt .ballot))),
+        let two : T (is2aAt t j) = subst T (kn .noted j lt .second) (and-r (isKnown rn j) (eqb (getD (bn .forms) j 0) 2) w) in (
+          (subst T (decides-told (top j)) q, (j, filter-in (isKnown rn) (below-in n l) (and-l (isKnown rn j) (eqb (getD (bn .forms) j 0) 2) w), two, sym (kn .noted j lt .ballot))),
           λ z. neqb→ne (valueOf (top j)) v (imp-out other (not (eqb (valueOf (top j)) v)) o z),
         )
 
     test-out : (x : ℕ) → D x → (T other → valueOf x ≢ v) → (j : ℕ) × (j < n) × T (test j) × (top j ≡ x)
     test-out x (d, (j, m, two, e)) ne =
-        let (mb, k) = filter-out (isKnownIn known) (below n) m in
+        let (mb, k) = filter-out (isKnown rn) (below n) m in
         let l : j < n = below-out n mb in
         let lt : j < length t = omega arith in
         let ex : top j ≡ x = kn .noted j lt .ballot ∙ e in
-        let f : T (eqb (getD forms j 0) 2) = subst T (sym (kn .noted j lt .second)) two in
-        let q : T (isQuorum G a (votersFor known forms learners tops signers n a (top j))) = subst T (sym (decides-told (top j))) (subst (λ (y : ℕ). T (decidesAt t G ks a y)) (sym ex) d) in
+        let f : T (eqb (getD (bn .forms) j 0) 2) = subst T (sym (kn .noted j lt .second)) two in
+        let q : T (isQuorum G a (votersFor rn wn bn a (top j))) = subst T (sym (decides-told (top j))) (subst (λ (y : ℕ). T (decidesAt t G ks a y)) (sym ex) d) in
         let o : T (not other || not (eqb (valueOf (top j)) v)) = imp-in other (not (eqb (valueOf (top j)) v)) (λ z. ne→neqb (valueOf (top j)) v (λ y. ne z (ap valueOf (sym ex) ∙ y))) in (
           j,
           l,
-          and-in (isKnown2a known forms j && isQuorum G a (votersFor known forms learners tops signers n a (top j))) (not other || not (eqb (valueOf (top j)) v))
-              (and-in (isKnown2a known forms j) (isQuorum G a (votersFor known forms learners tops signers n a (top j))) (and-in (isKnownIn known j) (eqb (getD forms j 0) 2) k f) q) o,
+          and-in (isKnown2a rn bn j && isQuorum G a (votersFor rn wn bn a (top j))) (not other || not (eqb (valueOf (top j)) v))
+              (and-in (isKnown2a rn bn j) (isQuorum G a (votersFor rn wn bn a (top j))) (and-in (isKnown rn j) (eqb (getD (bn .forms) j 0) 2) k f) q) o,
           ex,
         )
 
@@ -145,9 +155,9 @@ module _ (G : LearnerGraph) (t : Table) (kinds signers low high forkLow forkHigh
     found-least e x d ne = let (j, l, h, q) = test-out x d ne in subst (λ (y : ℕ). leastOf test top n .ballot ≤ y) q (least-is test top n .lowest e j l h)
 
   -- ---- the three answers
-  module _ (first : Least) (hf : first ≡ leastOf (isDeciding G known forms learners tops signers n a false 0) (λ j. getD tops j 0) n) where
-    pub undecided-told : first .found ≡ false → Undecided ≡ shown (reportAt t G ks a)
-    undecided-told e = sym (ap shown (report-at t G ks a undecided .1 (λ x d. none-left false 0 (ap (λ (r : Least). r .found) (sym hf) ∙ e) x d (λ z. absurd z))))
+  module _ (first : Least) (hf : first ≡ leastOf (isDeciding rn wn bn a false 0) (λ j. getD (wn .tops) j 0) n) where
+    pub undecided-told : first .found ≡ false → Undecided ≡ told (reportAt t G ks a)
+    undecided-told e = sym (ap told (report-at t G ks a undecided .1 (λ x d. none-left false 0 (ap (λ (r : Least). r .found) (sym hf) ∙ e) x d (λ z. absurd z))))
 
     least-told : first .found ≡ true → D (first .ballot) × ((x : ℕ) → D x → first .ballot ≤ x)
     least-told e =
@@ -155,13 +165,13 @@ module _ (G : LearnerGraph) (t : Table) (kinds signers low high forkLow forkHigh
         (found-one false 0 (ap (λ (r : Least). r .found) (sym hf) ∙ e) .0, λ x d. found-least false 0 (ap (λ (r : Least). r .found) (sym hf) ∙ e) x d (λ z. absurd z))
 
     module _ (one : first .found ≡ true) (second : Least) (v : ℕ) (hv : v ≡ valueOf (first .ballot))
-        (hs : second ≡ leastOf (isDeciding G known forms learners tops signers n a true v) (λ j. getD tops j 0) n) where
-      pub split-told : second .found ≡ true → Split (first .ballot) (second .ballot) ≡ shown (reportAt t G ks a)
+        (hs : second ≡ leastOf (isDeciding rn wn bn a true v) (λ j. getD (wn .tops) j 0) n) where
+      pub split-told : second .found ≡ true → Split (first .ballot) (second .ballot) ≡ told (reportAt t G ks a)
       split-told e =
-          let e′ : leastOf (isDeciding G known forms learners tops signers n a true v) (λ j. getD tops j 0) n .found ≡ true = ap (λ (r : Least). r .found) (sym hs) ∙ e in
-          let eb : leastOf (isDeciding G known forms learners tops signers n a true v) (λ j. getD tops j 0) n .ballot ≡ second .ballot = ap (λ (r : Least). r .ballot) (sym hs) in
+          let e′ : leastOf (isDeciding rn wn bn a true v) (λ j. getD (wn .tops) j 0) n .found ≡ true = ap (λ (r : Least). r .found) (sym hs) ∙ e in
+          let eb : leastOf (isDeciding rn wn bn a true v) (λ j. getD (wn .tops) j 0) n .ballot ≡ second .ballot = ap (λ (r : Least). r .ballot) (sym hs) in
           let (d, ne) = found-one true v e′ in
-          sym (ap shown (report-at t G ks a (split (first .ballot) (second .ballot)) .1 (
+          sym (ap told (report-at t G ks a (split (first .ballot) (second .ballot)) .1 (
             least-told one,
             (
               (subst D eb d, λ q. ne tt (ap valueOf eb ∙ q ∙ sym hv)),
@@ -169,9 +179,9 @@ module _ (G : LearnerGraph) (t : Table) (kinds signers low high forkLow forkHigh
             ),
           )))
 
-      pub decided-told : second .found ≡ false → Decided (first .ballot) ≡ shown (reportAt t G ks a)
+      pub decided-told : second .found ≡ false → Decided (first .ballot) ≡ told (reportAt t G ks a)
       decided-told e =
-          sym (ap shown (report-at t G ks a (decided (first .ballot)) .1 (least-told one, λ x d. step x d (ℕ-discrete (valueOf x) (valueOf (first .ballot))))))
+          sym (ap told (report-at t G ks a (decided (first .ballot)) .1 (least-told one, λ x d. step x d (ℕ-discrete (valueOf x) (valueOf (first .ballot))))))
         where
           step : (x : ℕ) → D x → Dec (valueOf x ≡ valueOf (first .ballot)) → valueOf x ≡ valueOf (first .ballot)
           step x d (yes q) = q

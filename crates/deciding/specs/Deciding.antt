@@ -1,63 +1,43 @@
--- What the report asks of the notes: which known 2as vote for a ballot, and the least ballot that decides.
-use mathlib.Core.Path.{_≡_}
+-- What the report asks of the notes: which known 2as vote for a ballot, and the least ballot that decides. r is the round, x and y are its notes.
 use mathlib.Core.Bool.{Bool, true, false, not, _&&_, _||_}
-use mathlib.Core.List.{List}
 use Prim.Native.Nat.{ℕ, zero, suc}
 use lib.Dec.{eqb, ltb}
-use lib.ListN.{length, getD}
+use lib.ListN.{getD}
 use Rattle.base.specs.Tests.{pick, any, below}
 use Rattle.base.specs.Sets.{has}
 use Rattle.base.specs.Ballots.{valueOf}
-use Rattle.graph.specs.LearnerGraph.{LearnerGraph, isQuorum}
-use Rattle.protocol.specs.Report as paper
-use Rattle.places.specs.PlaceSets.{Indexed}
-use Rattle.notes.specs.Notes.{keys, ballotKey, formKey}
+use Rattle.graph.specs.LearnerGraph.{isQuorum}
+use Rattle.round.specs.Round.{Round}
+use Rattle.round.specs.Holdings.{graphOf, signerAt, isKnown}
+use Rattle.notes.specs.Layout.{WordNotes, ByteNotes}
 use Rattle.deciding.specs.declared.Least.{Least}
-use Rattle.deciding.specs.declared.Verdict.{Verdict}
-use Rattle.deciding.specs.declared.Verdict.the-variants.{Undecided, Decided, Split}
 
--- ---- the part of the index that a report asks
-pub record Voting (n : ℕ) (tops forms keyLow keyHigh : List ℕ) : Type 0 where
-  pub byBallot : Indexed n (λ j. ballotKey (getD tops j 0)) keyLow keyHigh
-  pub byForm : Indexed n (λ j. formKey (getD forms j 0)) keyLow keyHigh
-  pub keyLowFit : length keyLow ≡ keys
-  pub keyHighFit : length keyHigh ≡ keys
+-- ---- place j holds a known 2a
+abbrev pub isKnown2a : Round → ByteNotes → ℕ → Bool
+isKnown2a r y j = isKnown r j && eqb (getD (y .forms) j 0) 2
 
--- ---- place j is known
-abbrev pub isKnownIn : List ℕ → ℕ → Bool
-isKnownIn known j = not (eqb (getD known j 0) 0)
-
--- place j holds a known 2a
-abbrev pub isKnown2a : List ℕ → List ℕ → ℕ → Bool
-isKnown2a known forms j = isKnownIn known j && eqb (getD forms j 0) 2
-
--- ---- place j holds a known 2a of ballot x with a in its learners
-abbrev pub isVoter : List ℕ → List ℕ → List ℕ → List ℕ → ℕ → ℕ → ℕ → Bool
-isVoter known forms learners tops a x j = isKnown2a known forms j && eqb (getD tops j 0) x && has (getD learners j 0) a
+-- ---- place j holds a known 2a of ballot z with a in its learners
+abbrev pub isVoter : Round → WordNotes → ByteNotes → ℕ → ℕ → ℕ → Bool
+isVoter r x y a z j = isKnown2a r y j && eqb (getD (x .tops) j 0) z && has (getD (y .learners) j 0) a
 
 -- the signers of such places
-abbrev pub votersFor : List ℕ → List ℕ → List ℕ → List ℕ → List ℕ → ℕ → ℕ → ℕ → ℕ → Bool
-votersFor known forms learners tops signers n a x p = any (λ j. isVoter known forms learners tops a x j && eqb (getD signers j 0) p) (below n)
+abbrev pub votersFor : Round → WordNotes → ByteNotes → ℕ → ℕ → ℕ → Bool
+votersFor r x y a z p = any (λ j. isVoter r x y a z j && eqb (signerAt r j) p) (below (r .held))
 
 -- ---- place j holds a known 2a whose ballot decides, and where `other`, one of another value than v
-abbrev pub isDeciding : LearnerGraph → List ℕ → List ℕ → List ℕ → List ℕ → List ℕ → ℕ → ℕ → Bool → ℕ → ℕ → Bool
-isDeciding G known forms learners tops signers n a other v j =
-    isKnown2a known forms j && isQuorum G a (votersFor known forms learners tops signers n a (getD tops j 0)) && (not other || not (eqb (valueOf (getD tops j 0)) v))
+abbrev pub isDeciding : Round → WordNotes → ByteNotes → ℕ → Bool → ℕ → ℕ → Bool
+isDeciding r x y a other v j =
+    isKnown2a r y j && isQuorum (graphOf r) a (votersFor r x y a (getD (x .tops) j 0)) && (not other || not (eqb (valueOf (getD (x .tops) j 0)) v))
 
 -- ---- the least of the numbers f j, j below n, that pass
 unfoldable pub lowered : Least → Bool → ℕ → Least
-lowered p on x = pick (on && (not (p .found) || ltb x (p .ballot))) (record { found = true; ballot = x }) p
+lowered p on z = pick (on && (not (p .found) || ltb z (p .ballot))) (record { found = true; ballot = z }) p
 
 -- place j holds a known 2a of a lower ballot than the least so far, and where `other`, of another value than v: what is asked before the quorum
-abbrev pub isLower : List ℕ → List ℕ → List ℕ → Least → Bool → ℕ → ℕ → Bool
-isLower known forms tops p other v j = isKnown2a known forms j && (not other || not (eqb (valueOf (getD tops j 0)) v)) && (not (p .found) || ltb (getD tops j 0) (p .ballot))
+abbrev pub isLower : Round → WordNotes → ByteNotes → Least → Bool → ℕ → ℕ → Bool
+isLower r x y p other v j =
+    isKnown2a r y j && (not other || not (eqb (valueOf (getD (x .tops) j 0)) v)) && (not (p .found) || ltb (getD (x .tops) j 0) (p .ballot))
 
 unfoldable pub leastOf : (ℕ → Bool) → (ℕ → ℕ) → ℕ → Least
 leastOf test f zero = record { found = false; ballot = 0 }
 leastOf test f (suc n) = lowered (leastOf test f n) (test n) (f n)
-
--- ---- a verdict as it is answered
-abbrev pub shown : paper.Verdict → Verdict
-shown paper.undecided = Undecided
-shown (paper.decided x) = Decided x
-shown (paper.split x y) = Split x y

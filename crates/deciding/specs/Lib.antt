@@ -1,2 +1,4 @@
--- What the report asks of the notes, and the verdict that it answers
+-- What the report asks of the notes
 pub mod Deciding
+-- What it asks of the lent arrays
+pub mod Asking

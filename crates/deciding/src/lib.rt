@@ -7,11 +7,3 @@ pub struct Least {
     pub found: bool,
     pub ballot: u64,
 }
-
-// What a report says: no ballot decides; all that decide carry one value, and this is the least; or they carry several, and these are the least
-// and the least of another value than that one's.
-pub enum Verdict {
-    Undecided,
-    Decided(u64),
-    Split(u64, u64),
-}

@@ -1,69 +1,85 @@
--- One place more of the notes in two lent arrays: put down, and filed.
-use mathlib.Core.Path.{_≡_, sym, ap, subst, transport, _∙_}
+-- One place more of the notes: put down, and filed.
+use mathlib.Core.Path.{_≡_, sym, ap, subst, _∙_}
 use mathlib.Core.Bool.{not, _||_}
 use mathlib.Core.List.{List}
-use Prim.Native.Nat.{ℕ, suc, _+_, _<_}
+use Prim.Native.Nat.{ℕ, suc, _+_, _*_, _<_}
 use native.Mathlib.Omega.{arith}
 use lib.Dec.{eqb}
 use lib.ListN.{getD}
-use Rattle.graph.specs.LearnerGraph.{LearnerGraph}
+use Rattle.message.specs.Layout.{idLen}
+use Rattle.round.specs.Round.{Round}
+use Rattle.round.specs.Limits.{noPlace, maxHeld}
+use Rattle.round.specs.Holdings.{graphOf, idAt, signerAt}
 use Rattle.notes.specs.declared.Worked.{Worked}
-use Rattle.notes.specs.Records.{tableIn, Fit}
-use Rattle.notes.specs.Notes.{NotedBy, Put}
-use Rattle.scan.specs.Arrays.{Named, IdsIndexed}
-use Rattle.notes.specs.Lent.{Notes, notesIn, KnownIn, MarksIn, withNote, FiledIn, withNames}
+use Rattle.notes.specs.Layout.{WordNotes, ByteNotes}
+use Rattle.notes.specs.Index.{linkAt, Filed, Marks}
+use Rattle.notes.specs.Writing.{wordsNoted, bytesNoted, FiledIn}
+use Rattle.notes.proofs.Fields.{WordRooms, ByteRooms}
+use Rattle.scan.specs.Arrays.{Lowest, Named, idKey, IdsIndexed}
+use Rattle.meaning.specs.Records.{tableTo, Fit}
+use Rattle.meaning.specs.Notes.{NotedBy, AllNoted}
+use Rattle.meaning.proofs.Walking.{marks-more}
+use Rattle.meaning.proofs.Passing.{pass-more}
+use Rattle.meaning.proofs.Marking.{marked-more}
 use Rattle.derive.specs.Complete.{Complete, Extended}
-use Rattle.derive.proofs.Passing.{pass-more}
-use Rattle.derive.proofs.Marking.{marked-more}
-use Rattle.notes.proofs.Walking.{marks-more}
-use Rattle.notes.proofs.Lending.{Rooms, name-read}
 
--- the names stay
-pub link-kept : (w b : List ℕ) (x : Notes) (r : Worked) (p at : ℕ) → notesIn w b ≡ withNote x r p → at < 256 → getD b at 0 ≡ getD (x .names) at 0
-link-kept w b x r p at e l = name-read b at l ∙ ap (λ (z : Notes). getD (z .names) at 0) e
+-- the names alone say that places are named
+pub named-by : (r : Round) (n : ℕ) (y y′ : ByteNotes) → y′ .names ≡ y .names → Named r n y → Named r n y′
+named-by r n y y′ e h =
+    record {
+      none = ap (λ (l : List ℕ). getD l noPlace 0) e ∙ h .none;
+      each = λ i l. subst (λ (ns : List ℕ). Lowest r i (idAt r i) (getD ns i 0)) (sym e) (h .each i l);
+    }
 
-module _ (kinds signers : List ℕ) (x y : Notes) (r : Worked) (p link : ℕ) (rooms : Rooms x) (small : p < 128)
-    (filed : FiledIn (withNote x r p) y (getD signers p 0) link (r .ballot) (r .form) (not (eqb (r .forks .low) 0) || not (eqb (r .forks .high) 0)) p) where
-  -- the index has the place
-  pub marks-next : (previous : List ℕ) → link ≡ getD (x .names) (getD previous p 0) 0 → MarksIn p signers previous x
-      → MarksIn (p + 1) signers previous y
-  marks-next previous e old =
-      subst (MarksIn (p + 1) signers previous) (sym (filed .rest))
-      (marks-more p signers (x .names) previous (x .forklow) (x .forkhigh) (x .tops) (x .forms) (x .keylow) (x .keyhigh) (x .forkedlow) (x .forkedhigh) (omega arith) old small (rooms .tops) (rooms .forms)
-      (y .keylow) (y .keyhigh) (r .ballot) (r .form) (r .forks .low) (r .forks .high) (y .forkedlow) (y .forkedhigh)
-      (subst (λ (k : ℕ). Put (x .keylow) (x .keyhigh) (y .keylow) (y .keyhigh) (getD signers p 0) k (r .ballot) (r .form) p) e (filed .put))
-      (marked-more (x .forklow) (x .forkhigh) (rooms .forklow) (rooms .forkhigh) p small (x .forkedlow) (x .forkedhigh) (old .forked) (r .forks .low) (r .forks .high) (y .forkedlow) (y .forkedhigh) (filed .forked)))
+-- ---- place p, worked out as w, put down and filed
+module _ (r : Round) (x x′ : WordNotes) (y : ByteNotes) (w : Worked) (p : ℕ) (wide : WordRooms x) (long : ByteRooms y) (small : p < maxHeld)
+    (filed : FiledIn (wordsNoted x w p) x′ (signerAt r p) (linkAt r y p) (w .ballot) (w .form) (not (eqb (w .forks .low) 0) || not (eqb (w .forks .high) 0)) p) where
+  marks-next : Marks p r x y → Marks (p + 1) r x′ (bytesNoted y w p)
+  marks-next old =
+      subst (λ (z : WordNotes). Marks (p + 1) r z (bytesNoted y w p)) (sym (filed .rest))
+      (marks-more p r x y (omega arith) old small (wide .tops) (long .forms) w (x′ .keylow) (x′ .keyhigh) (x′ .forkedlow) (x′ .forkedhigh) (filed .put)
+      (marked-more (x .forklow) (x .forkhigh) (wide .forklow) (wide .forkhigh) p small (x .forkedlow) (x .forkedhigh) (old .forked) (w .forks .low) (w .forks .high) (x′ .forkedlow) (x′ .forkedhigh)
+      (filed .forked)))
 
-  -- its notes are right
-  pub known-next : (G : LearnerGraph) (ids ballots previous counts references : List ℕ) (n : ℕ) → Fit n kinds previous counts references → p < n
-      → NotedBy G (tableIn ids kinds signers ballots previous counts references (suc p)) p r
-      → KnownIn G (tableIn ids kinds signers ballots previous counts references p) kinds signers x
-      → KnownIn G (tableIn ids kinds signers ballots previous counts references (p + 1)) kinds signers y
-  known-next G ids ballots previous counts references n fit l noted old =
-      subst (KnownIn G (tableIn ids kinds signers ballots previous counts references (p + 1)) kinds signers) (sym (filed .rest))
-      (pass-more G ids kinds signers ballots previous counts references n fit p l (x .low) (x .high) (x .forklow) (x .forkhigh) (x .tops) (x .learners) (x .fresh) (x .forms)
-      (rooms .low) (rooms .high) (rooms .forklow) (rooms .forkhigh) (rooms .tops) (rooms .learners) (rooms .fresh) (rooms .forms) old r noted)
+  known-next : Fit (r .held) r → p < r .held → NotedBy (graphOf r) (tableTo r (suc p)) p w → AllNoted (graphOf r) (tableTo r p) r x y
+      → AllNoted (graphOf r) (tableTo r (p + 1)) r x′ (bytesNoted y w p)
+  known-next fit l noted old =
+      subst (λ (z : WordNotes). AllNoted (graphOf r) (tableTo r (p + 1)) r z (bytesNoted y w p)) (sym (filed .rest))
+      (pass-more (graphOf r) r (r .held) fit p l x y wide long old w noted (x′ .keylow) (x′ .keyhigh) (x′ .forkedlow) (x′ .forkedhigh))
 
--- ---- notes that were extended from notes x with other names and another index of the ids are all right
-module _ (G : LearnerGraph) (ids kinds signers ballots previous counts references : List ℕ) (n from : ℕ) (x x′ y : Notes) (names idlow idhigh : List ℕ)
-    (e : x′ ≡ withNames x names idlow idhigh) (more : Extended G kinds signers ballots previous counts references n from n x′ y)
-    (named : Named ids n names) (indexed : IdsIndexed ids n idlow idhigh)
-    (known : KnownIn G (tableIn ids kinds signers ballots previous counts references from) kinds signers x) where
-  names-are : y .names ≡ names
-  names-are = more .names ∙ ap (λ (z : Notes). z .names) e
+  pub one-more : Fit (r .held) r → p < r .held → Marks p r x y
+      → (Named r (r .held) y → AllNoted (graphOf r) (tableTo r p) r x y → NotedBy (graphOf r) (tableTo r (suc p)) p w)
+      → Extended r p (p + 1) x x′ y (bytesNoted y w p)
+  one-more fit l marks noted =
+      record {
+        names = λ i. y .names;
+        idlow = ap (λ (z : WordNotes). z .idlow) (filed .rest);
+        idhigh = ap (λ (z : WordNotes). z .idhigh) (filed .rest);
+        marked = marks-next marks;
+        known = λ named kn. known-next fit l (noted named kn) kn;
+      }
 
-  low-are : y .idlow ≡ idlow
-  low-are = more .idlow ∙ ap (λ (z : Notes). z .idlow) e
+-- ---- one extension after another
+pub then : (r : Round) (from p q : ℕ) (x x′ x″ : WordNotes) (y y′ y″ : ByteNotes) → Extended r from p x x′ y y′ → Extended r p q x′ x″ y′ y″ → Extended r from q x x″ y y″
+then r from p q x x′ x″ y y′ y″ a b =
+    record {
+      names = b .names ∙ a .names;
+      idlow = b .idlow ∙ a .idlow;
+      idhigh = b .idhigh ∙ a .idhigh;
+      marked = b .marked;
+      known = λ named kn. b .known (named-by r (r .held) y y′ (a .names) named) (a .known named kn);
+    }
 
-  high-are : y .idhigh ≡ idhigh
-  high-are = more .idhigh ∙ ap (λ (z : Notes). z .idhigh) e
-
-  pub all-complete : Complete G ids kinds signers ballots previous counts references n y
-  all-complete = (
-    (
-      subst (Named ids n) (sym names-are) named,
-      more .known ids (subst (λ (z : Notes). Named ids n (z .names)) (sym e) named)
-          (subst (KnownIn G (tableIn ids kinds signers ballots previous counts references from) kinds signers) (sym e) known),
-    ),
-    (transport (λ i. IdsIndexed ids n (sym low-are i) (sym high-are i)) indexed, more .marked),
-  )
+-- ---- notes that were extended from notes with all names and the whole index of the ids are complete
+pub all-complete : (r : Round) (from : ℕ) (x x′ : WordNotes) (y y′ : ByteNotes) → Named r (r .held) y → IdsIndexed r (r .held) x → AllNoted (graphOf r) (tableTo r from) r x y
+    → Extended r from (r .held) x x′ y y′ → Complete r (r .held) x′ y′
+all-complete r from x x′ y y′ named ids known more =
+    record {
+      named = named-by r (r .held) y y′ (more .names) named;
+      known = more .known named known;
+      ids = λ j l. subst (λ (a : List ℕ). Filed a (x′ .idhigh) (idKeyAt j) j) (sym (more .idlow)) (subst (λ (b : List ℕ). Filed (x .idlow) b (idKeyAt j) j) (sym (more .idhigh)) (ids j l));
+      marked = more .marked;
+    }
+  where
+    idKeyAt : ℕ → ℕ
+    idKeyAt j = idKey (r .ids) (idLen * j)

@@ -1,10 +1,4 @@
--- One place more of the pass
-pub mod Passing
--- The places that fork
-pub mod Marking
--- Names and ids
-pub mod Naming
--- What stays of the notes when one place more is held
-pub mod Keeping
--- One place more of the notes in two lent arrays
+-- One place more, put down and filed
 pub mod Extending
+-- One more held message leaves the notes of those before it
+pub mod Keeping

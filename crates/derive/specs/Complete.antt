@@ -1,23 +1,51 @@
--- The notes of the first n places of a round's arrays are right, and so are the indexes that they keep.
+-- The notes of the first n places of a round are right, and so are the indexes that they keep.
 use mathlib.Core.Path.{_≡_}
 use mathlib.Core.List.{List}
-use Prim.Native.Nat.{ℕ}
-use Rattle.graph.specs.LearnerGraph.{LearnerGraph}
+use Prim.Native.Nat.{ℕ, suc, _<_}
+use Rattle.base.specs.Tests.{_∈_}
+use Rattle.round.specs.Round.{Round}
+use Rattle.round.specs.Holdings.{graphOf}
+use Rattle.roundbytes.specs.Layout.{roundIn}
+use Rattle.notes.specs.Layout.{WordNotes, ByteNotes, wordNotes, byteNotes, Lent}
+use Rattle.notes.specs.Index.{Marks}
 use Rattle.scan.specs.Arrays.{Named, IdsIndexed}
-use Rattle.notes.specs.Records.{tableIn}
-use Rattle.notes.specs.Lent.{Notes, KnownIn, MarksIn}
+use Rattle.meaning.specs.Records.{tableTo, Fit}
+use Rattle.meaning.specs.Notes.{AllNoted}
+use Rattle.meaning.specs.Lent.{Given}
 
-abbrev pub Complete : LearnerGraph → List ℕ → List ℕ → List ℕ → List ℕ → List ℕ → List ℕ → List ℕ → ℕ → Notes → Type 0
-Complete G ids kinds signers ballots previous counts references n x =
-    (Named ids n (x .names) × KnownIn G (tableIn ids kinds signers ballots previous counts references n) kinds signers x)
-    × (IdsIndexed ids n (x .idlow) (x .idhigh) × MarksIn n signers previous x)
+pub record Complete (r : Round) (n : ℕ) (x : WordNotes) (y : ByteNotes) : Type 0 where
+  pub named : Named r n y
+  pub known : AllNoted (graphOf r) (tableTo r n) r x y
+  pub ids : IdsIndexed r n x
+  pub marked : Marks n r x y
 
--- ---- the notes y of p places of a round that holds n, from those x of the first `from`: the names and the index of the ids stay, the index has the
--- places, and where the notes x are right and the n places have their names, the notes y are right
-pub record Extended (G : LearnerGraph) (kinds signers ballots previous counts references : List ℕ) (n from p : ℕ) (x y : Notes) : Type 0 where
-  pub names : y .names ≡ x .names
-  pub idlow : y .idlow ≡ x .idlow
-  pub idhigh : y .idhigh ≡ x .idhigh
-  pub marked : MarksIn p signers previous y
-  pub known : (ids : List ℕ) → Named ids n (x .names) → KnownIn G (tableIn ids kinds signers ballots previous counts references from) kinds signers x
-      → KnownIn G (tableIn ids kinds signers ballots previous counts references p) kinds signers y
+-- ---- the notes x′ and y′ of the first p places, from those x and y of the first `from`: the names and the index of the ids stay, the index has the
+-- places, and where the notes x and y are right and all held messages have their names, x′ and y′ are right
+pub record Extended (r : Round) (from p : ℕ) (x x′ : WordNotes) (y y′ : ByteNotes) : Type 0 where
+  pub names : y′ .names ≡ y .names
+  pub idlow : x′ .idlow ≡ x .idlow
+  pub idhigh : x′ .idhigh ≡ x .idhigh
+  pub marked : Marks p r x′ y′
+  pub known : Named r (r .held) y → AllNoted (graphOf r) (tableTo r from) r x y → AllNoted (graphOf r) (tableTo r p) r x′ y′
+
+-- ---- the notes of the first n places of a round, in lent arrays
+pub record WorkedTo (r : Round) (n : ℕ) (words octets : List ℕ) : Type 0 where
+  pub lent : Lent words octets
+  pub complete : Complete r n (wordNotes words) (byteNotes octets)
+
+-- and those of all its messages
+abbrev pub WorkedOut : Round → List ℕ → List ℕ → Type 0
+WorkedOut r words octets = WorkedTo r (r .held) words octets
+
+-- ---- a round that holds one message more than the n whose notes are right; none of these names it as its previous message
+pub record OneMore (s masks words octets : List ℕ) (n : ℕ) : Type 0 where
+  pub given : Given s masks words octets
+  pub more : roundIn s .held ≡ suc n
+  pub before : Fit n (roundIn s)
+  pub complete : Complete (roundIn s) n (wordNotes words) (byteNotes octets)
+
+-- ---- what a new message is judged by: the notes of all held messages, and that it refers to places of these
+pub record Judging (s masks words octets places : List ℕ) : Type 0 where
+  pub given : Given s masks words octets
+  pub complete : Complete (roundIn s) (roundIn s .held) (wordNotes words) (byteNotes octets)
+  pub earlier : (j : ℕ) → j ∈ places → j < roundIn s .held

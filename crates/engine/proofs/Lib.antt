@@ -10,3 +10,5 @@ pub mod Delivering
 pub mod InBuffer
 -- The notes of a round that holds one message more
 pub mod Keeping
+-- The report in two cases
+pub mod Reporting

@@ -11,7 +11,7 @@ use Rattle.base.specs.declared.refusal.Refusal.{Refusal}
 use Rattle.base.specs.declared.refusal.Refusal.the-variants.{Argument}
 use Rattle.graph.specs.declared.Answer.the-variants.{Accepted, Refused}
 use Rattle.graphfile.specs.declared.Reading.{Reading}
-use Rattle.graphfile.specs.Held.{readingOf}
+use Rattle.graphfile.specs.Arrays.{readingOf}
 use Rattle.round.specs.declared.Opening.{Opening}
 use Rattle.round.specs.declared.Opening.the-variants as opening
 use Rattle.round.specs.Limits.{noPlace, listening}

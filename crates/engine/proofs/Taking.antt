@@ -1,28 +1,24 @@
 -- The rows of a proposal in their order, those of an acceptor message that passes 8 to 12, and a message that is refused by a row or entered.
-use mathlib.Core.Path.{_≡_, refl, sym, subst, _∙_}
+use mathlib.Core.Path.{_≡_, refl, subst, sym}
+use mathlib.Core.Option.{some, none, Option}
 use mathlib.Core.Bool.{Bool, true, false}
-use mathlib.Core.Option.{Option, none, some}
 use mathlib.Core.List.{List}
 use Prim.Native.Nat.{ℕ}
-use Rattle.base.specs.Tests.{pick}
-use Rattle.base.specs.declared.refusal.Refusal.{Refusal}
-use Rattle.base.specs.declared.refusal.Refusal.the-variants.{OtherRound, Known, Full}
-use Rattle.message.specs.declared.AcceptorMessage.{AcceptorMessage}
-use Rattle.message.specs.declared.Proposal.{Proposal}
-use Rattle.protocol.specs.Ids.{Id}
-use Rattle.protocol.specs.Table.{Held}
-use Rattle.round.specs.Delivery.{Delivered}
-use Rattle.round.specs.Held.{placeOf}
-use Rattle.round.specs.Delivery.{decidedBy, entered, acceptorTaken}
-use Rattle.admission.proofs.Lent.{places-lent}
-use Rattle.order.specs.declared.rows.Row.{Row}
-use Rattle.order.specs.declared.rows.Row.the-variants.{Clear}
-use Rattle.order.specs.Rows.{rowOf}
-use Rattle.judging.proofs.Voting.{heads, chains, recordTo, sounds, placesTo, rows, by-rest}
-use Rattle.answering.specs.Giving.{Gives, refusal}
-use Rattle.answering.proofs.Replying.{front-none}
 use Rattle.round.specs.Round.{Round}
-use Rattle.round.specs.Rows.{otherRound, isKnownId, full, proposalRows, firstOf, referenceIds, previousId}
+use Rattle.protocol.specs.Ids.{Id}
+use Rattle.message.specs.declared.Proposal.{Proposal}
+use Rattle.round.specs.Rows.{firstOf, proposalRows, otherRound, isKnownId, full, messageOf, previousId, referenceIds}
+use Rattle.base.specs.Tests.{pick}
+use Rattle.base.specs.declared.refusal.Refusal.the-variants.{OtherRound, Known, Full}
+use Rattle.base.specs.declared.refusal.Refusal.{Refusal}
+use Rattle.protocol.specs.Table.{Held}
+use Rattle.round.specs.Delivery.{Delivered, decidedBy, entered, acceptorTaken}
+use Rattle.answering.specs.Giving.{refusal, Gives}
+use Rattle.answering.proofs.Replying.{front-none}
+use Rattle.round.specs.Holdings.{placeOf}
+use Rattle.message.specs.declared.AcceptorMessage.{AcceptorMessage}
+use Rattle.judging.proofs.Voting.{recordRead, rows, sounds}
+use Rattle.judging.specs.Turning.{soundRow}
 
 pub proposal-row : (r : Round) (i : Id) (m : Proposal)
     → firstOf (proposalRows r i m) ≡ pick (otherRound r (m .house) (m .bay)) (some OtherRound) (pick (isKnownId r i) (some Known) (pick (full r i) (some Full) none))
@@ -54,11 +50,8 @@ module _ (H : List ℕ → Id) (r : Round) (i : Id) (h : Held) (o : Option Refus
   pub taken-entered : (after : List ℕ) → o ≡ none → Gives (entered H r h (placeOf r i)) x before after → Gives (decidedBy H r i h o) x before after
   taken-entered after q g = subst (λ (y : Option Refusal). Gives (decidedBy H r i h y) x before after) (sym q) g
 
--- ---- an acceptor message, where rows 8 to 12 are clear and l are the places that it refers to
-module _ (r : Round) (i : Id) (b : List ℕ) (m : AcceptorMessage) (l : List ℕ) where
-  -- it is taken as rows 14 to 16 decide
-  pub taken-settled : (H : List ℕ → Id) (x : Delivered) (before after : List ℕ) (y z : Row) → y ≡ rowOf (heads r i b m) → y ≡ Clear → z ≡ rowOf (chains r i b m) → z ≡ Clear → l ≡ placesTo r i b m
-      → Gives (decidedBy H r i (recordTo r i b m l) (sounds r i b m l)) x before after → Gives (acceptorTaken H r i m (previousId b m) (referenceIds b m)) x before after
-  taken-settled H x before after y z u h v k q g =
-      subst (λ (p : List ℕ). Gives (decidedBy H r i (recordTo r i b m p) (rows r i b m)) x before after) (q ∙ sym (places-lent r (referenceIds b m)))
-      (subst (λ (o : Option Refusal). Gives (decidedBy H r i (recordTo r i b m l) o) x before after) (sym (by-rest r i b m y u h z v k l q)) g)
+-- ---- an acceptor message, where rows 8 to 12 are clear: it is taken as rows 14 to 16 decide
+pub taken-settled : (H : List ℕ → Id) (r : Round) (i : Id) (b : List ℕ) (m : AcceptorMessage) (h : Held) (x : Delivered) (before after : List ℕ) → h ≡ recordRead r i b m → rows r i b m ≡ sounds r i b m
+    → Gives (decidedBy H r i h (soundRow r i (messageOf r h))) x before after → Gives (acceptorTaken H r i m (previousId b m) (referenceIds b m)) x before after
+taken-settled H r i b m h x before after e q g =
+    subst (λ (o : Option Refusal). Gives (decidedBy H r i (recordRead r i b m) o) x before after) (sym q) (subst (λ (y : Held). Gives (decidedBy H r i y (soundRow r i (messageOf r y))) x before after) e g)

@@ -1,17 +1,62 @@
--- What is asked of a message that enters a round.
+-- A message that is taken and enters a round: what each step needs, and what an entering gives.
+use mathlib.Core.Path.{_≡_}
 use mathlib.Core.Bool.{not}
+use mathlib.Core.Option.{Option, none, some}
 use mathlib.Core.List.{List}
 use Prim.Native.Nat.{ℕ, _≤_}
 use lib.Dec.{T}
 use lib.ListN.{length}
+use Rattle.message.specs.Layout.{idLen}
 use Rattle.protocol.specs.Ids.{Id}
+use Rattle.protocol.specs.Table.{Held}
 use Rattle.round.specs.Round.{Round}
 use Rattle.round.specs.Limits.{replyLen}
-use Rattle.round.specs.Handed.{fits}
+use Rattle.round.specs.Holdings.{placeOf}
 use Rattle.round.specs.Rows.{full}
+use Rattle.round.specs.Delivery.{hold, returned}
+use Rattle.roundbytes.specs.Layout.{roundIn, Kept}
+use Rattle.admission.specs.declared.lookup.Found.{Found}
+use Rattle.admission.specs.declared.rows.Vote.{Vote}
+use Rattle.admission.specs.Finding.{placeFound}
+use Rattle.judging.specs.Standing.{Passes}
+use Rattle.judging.specs.Referring.{Referring}
 
--- the round passes row 17, and row 16 does not apply
-pub record Enterable (r : Round) (i : Id) (buffer : List ℕ) : Type 0 where
-  pub fit : T (fits r)
-  pub free : T (not (full r i))
+-- ---- what is asked
+-- of the bytes s of a round, the id i of a message that is taken, and the reply buffer
+pub record Takes (s : List ℕ) (i : Id) (buffer : List ℕ) : Type 0 where
+  pub passes : Passes s
+  -- the id is whole,
+  pub id-bytes : length i ≡ idLen
+  -- and the longest message fits the buffer
   pub long : replyLen ≤ length buffer
+
+-- where rows 8 to 12 of an acceptor message are clear
+pub record Settles (s : List ℕ) (i : Id) (f : Found) (v : Vote) (buffer : List ℕ) : Type 0 where
+  pub takes : Takes s i buffer
+  -- f is what was found for its id,
+  pub found : placeFound f ≡ placeOf (roundIn s) i
+  -- and v what its other ids name
+  pub refers : Referring (roundIn s) v
+
+-- where no row applies
+pub record Enterable (s : List ℕ) (i : Id) (f : Found) : Type 0 where
+  pub passes : Passes s
+  pub id-bytes : length i ≡ idLen
+  pub found : placeFound f ≡ placeOf (roundIn s) i
+  -- nor does row 16
+  pub free : T (not (full (roundIn s) i))
+
+-- ---- what an entering gives: the message h is known, at the place where it awaited its return or behind the others
+abbrev pub enteredIn : Round → Held → Option ℕ → Round
+enteredIn r h none = hold r h 1
+enteredIn r h (some p) = returned r p
+
+abbrev pub enteredAt : Round → Option ℕ → ℕ
+enteredAt r none = r .held
+enteredAt r (some p) = p
+
+-- the bytes s became t, and the message is at place p
+pub record Enters (s t : List ℕ) (h : Held) (f : Found) (p : ℕ) : Type 0 where
+  pub round : roundIn t ≡ enteredIn (roundIn s) h (placeFound f)
+  pub place : p ≡ enteredAt (roundIn s) (placeFound f)
+  pub kept : Kept s t

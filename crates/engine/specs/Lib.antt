@@ -1,4 +1,4 @@
 -- What the calls on a round in a lent buffer answer and write
 pub mod Calls
--- What is asked of a message that enters
+-- A message that is taken and enters
 pub mod Entering

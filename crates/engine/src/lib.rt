@@ -2,21 +2,22 @@
 // crate round.
 use crate::take::take_proposal;
 use crate::take::take_vote;
-use admission::handed::fits;
 use admission::start::start;
 use base::refusal::Refusal;
 use base::size;
 use digest::sha256;
 use graph::Answer;
 use graphfile::read;
-use judging::verdict::answer_to;
+use handed::fits;
 use judging::verdict::verdict_for;
 use message::Reading;
+use message::layout::MAX_LEN;
 use round::Opening;
 use round::Outcome;
 use round::Report;
 use roundbytes::ROUND_LEN;
 use roundbytes::masks_in;
+use roundbytes::readers::learners_of;
 
 mod enter;
 mod settle;
@@ -31,7 +32,7 @@ ghost use Rattle.round.specs.Report.{reported};
 ghost use Rattle.roundbytes.specs.Layout.{roundLen, roundIn, Kept};
 ghost use Rattle.engine.specs.Calls.{openAnswer, openTo, deliverAnswer, deliverTo, replyTo, reportAnswer};
 
-// Opens a round at the front of s: a graph file, a house, a bay, and an acceptor number, or 256 and more for listening only.
+// Opens a round at the front of s: a graph file, a house, a bay, and an acceptor number, or LISTENING and more for none.
 pub fn open(file: &[u8], house: u16, bay: u16, own: u16, s: &mut [u8]) -> Opening
     ensures { λ a. ⌜ (a ≡ openAnswer (now (file .entry)) house bay own (now (s .entry))) × (now (s .exit) ≡ openTo (now (file .entry)) house bay own (now (s .entry))) ⌝ }
 {
@@ -47,9 +48,6 @@ pub fn open(file: &[u8], house: u16, bay: u16, own: u16, s: &mut [u8]) -> Openin
     }
 }
 
-// The bytes that the longest message takes: what a reply buffer must have.
-const REPLY_LEN: usize = 4139;
-
 // Delivers the bytes of a message to the round in the front of s, where the bytes are enough for one.
 fn deliver_in(s: &mut [u8], bytes: &[u8], reply: &mut [u8]) -> Outcome
     requires { ⌜ roundLen ≤ length (now s) ⌝ }
@@ -61,7 +59,8 @@ fn deliver_in(s: &mut [u8], bytes: &[u8], reply: &mut [u8]) -> Outcome
     if !fits(s) {
         return Outcome::Refused(Refusal::Argument);
     }
-    if reply.len() < REPLY_LEN {
+    // As long as the longest message.
+    if reply.len() < MAX_LEN {
         return Outcome::Refused(Refusal::Argument);
     }
     match message::read(bytes) {
@@ -97,11 +96,12 @@ fn report_in(s: &[u8], learner: u8) -> Report
     if !fits(s) {
         return Report::Refused(Refusal::Argument);
     }
-    if s[1] <= learner {
+    let number = size(learner);
+    if learners_of(s) <= number {
         return Report::Refused(Refusal::Argument);
     }
     let masks = masks_in(s);
-    answer_to(verdict_for(s, &masks, size(learner)))
+    verdict_for(s, &masks, number)
 }
 
 // The report for a learner, over the known messages of the round in the front of s.

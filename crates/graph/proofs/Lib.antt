@@ -1,7 +1,7 @@
 -- What the tests of the learner graph say
 pub mod LearnerGraph
 -- The graph in memory
-pub mod Held
+pub mod Memory
 -- What valid and condensed mean
 pub mod Meaning
 -- Graphs that say the same are valid, and condensed, alike

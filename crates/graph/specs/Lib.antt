@@ -5,6 +5,6 @@ pub mod LearnerGraph
 -- What a check answers
 pub mod Answers
 -- The graph in memory
-pub mod Held
+pub mod Memory
 -- What valid and condensed mean
 pub mod Theorems

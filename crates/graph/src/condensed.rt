@@ -11,7 +11,7 @@ ghost use Rattle.base.specs.Tests.{any, all, below};
 ghost use Rattle.base.specs.Sets.{has, contains};
 ghost use Rattle.graph.specs.Limits.{lists, maxLearners};
 ghost use Rattle.graph.specs.LearnerGraph.{condensedAt, condensed};
-ghost use Rattle.graph.specs.Held.{listOf, heldGraph, Sized};
+ghost use Rattle.graph.specs.Memory.{listOf, heldGraph, GraphSized, TwoLearners};
 
 // The union of s and any mask of list k contains a mask of list m.
 fn joins<'a>(
@@ -22,7 +22,7 @@ fn joins<'a>(
     m: usize,
     s: Mask,
 ) -> bool
-    requires { ⌜ (k < lists) × ((m < lists) × Sized (now counts) (now masks)) ⌝ }
+    requires { ⌜ (k < lists) × ((m < lists) × GraphSized (now counts) (now masks)) ⌝ }
     ensures { λ r. ⌜ r ≡ all (λ t. any (contains acceptors (λ p. has s p || has t p)) (listOf (now (counts .entry)) (now (masks .entry)) m)) (listOf (now (counts .entry)) (now (masks .entry)) k) ⌝ }
 {
     let from = MAX_MASKS * k;
@@ -45,7 +45,7 @@ fn condensed_at<'a>(
     b: usize,
     c: usize,
 ) -> bool
-    requires { ⌜ (a < maxLearners) × ((b < maxLearners) × ((c < maxLearners) × Sized (now counts) (now masks))) ⌝ }
+    requires { ⌜ (c < maxLearners) × TwoLearners (now counts) (now masks) a b ⌝ }
     ensures { λ r. ⌜ ((l : ℕ) → r ≡ condensedAt (heldGraph acceptors l (now (counts .entry)) (now (masks .entry))) a b c) ⌝ }
 {
     let ab = pair_list(a, b);
@@ -72,7 +72,7 @@ fn condensed_pair<'a>(
     a: usize,
     b: usize,
 ) -> bool
-    requires { ⌜ (learners ≤ maxLearners) × ((a < maxLearners) × ((b < maxLearners) × Sized (now counts) (now masks))) ⌝ }
+    requires { ⌜ (learners ≤ maxLearners) × TwoLearners (now counts) (now masks) a b ⌝ }
     ensures { λ r. ⌜ r ≡ all (λ c. condensedAt (heldGraph acceptors learners (now (counts .entry)) (now (masks .entry))) a b c) (below learners) ⌝ }
 {
     let mut c = learners;
@@ -93,7 +93,7 @@ fn condensed_row<'a>(
     learners: usize,
     a: usize,
 ) -> bool
-    requires { ⌜ (learners ≤ maxLearners) × ((a < maxLearners) × Sized (now counts) (now masks)) ⌝ }
+    requires { ⌜ (learners ≤ maxLearners) × ((a < maxLearners) × GraphSized (now counts) (now masks)) ⌝ }
     ensures { λ r. ⌜ r ≡ all (λ b. all (λ c. condensedAt (heldGraph acceptors learners (now (counts .entry)) (now (masks .entry))) a b c) (below learners)) (below learners) ⌝ }
 {
     let mut b = learners;
@@ -108,7 +108,7 @@ fn condensed_row<'a>(
 
 // Row 7: whether the graph is condensed.
 pub fn is_condensed<'a>(counts: &'a [u8], masks: &'a [Mask], acceptors: u8, learners: usize) -> bool
-    requires { ⌜ (learners ≤ maxLearners) × Sized (now counts) (now masks) ⌝ }
+    requires { ⌜ (learners ≤ maxLearners) × GraphSized (now counts) (now masks) ⌝ }
     ensures { λ r. ⌜ r ≡ condensed (heldGraph acceptors learners (now (counts .entry)) (now (masks .entry))) ⌝ }
 {
     let mut a = learners;

@@ -12,7 +12,7 @@ ghost use mathlib.Core.Path.{_≡_};
 ghost use Prim.Native.Nat.{_≤_};
 ghost use Rattle.graph.specs.Limits.{maxLearners};
 ghost use Rattle.graph.specs.Answers.{graphAnswer, answerNumber};
-ghost use Rattle.graph.specs.Held.{heldGraph, Sized};
+ghost use Rattle.graph.specs.Memory.{heldGraph, GraphSized};
 
 // A set of acceptors: bit p is acceptor p.
 pub type Mask = u32;
@@ -60,7 +60,7 @@ pub fn graph_answer<'a>(
     acceptors: u8,
     learners: usize,
 ) -> Answer
-    requires { ⌜ (learners ≤ maxLearners) × Sized (now counts) (now masks) ⌝ }
+    requires { ⌜ (learners ≤ maxLearners) × GraphSized (now counts) (now masks) ⌝ }
     ensures { λ r. ⌜ r ≡ graphAnswer (heldGraph acceptors learners (now (counts .entry)) (now (masks .entry))) ⌝ }
 {
     if !is_valid(counts, masks, acceptors, learners) {

@@ -12,8 +12,8 @@ ghost use lib.Seq.{slice};
 ghost use Rattle.base.specs.Tests.{any};
 ghost use Rattle.base.specs.Sets.{has, contains, apart};
 ghost use Rattle.graph.specs.Limits.{lists, maxLearners, maxMasks};
-ghost use Rattle.graph.specs.LearnerGraph.{isQuorum, isSafe, safeWithout};
-ghost use Rattle.graph.specs.Held.{within, triangle, listOf, pairList, heldGraph, Sized};
+ghost use Rattle.graph.specs.LearnerGraph.{isQuorum, safeWithout};
+ghost use Rattle.graph.specs.Memory.{within, triangle, listOf, pairList, heldGraph, GraphSized};
 
 // All acceptors below n. A shift by the width of a mask has no meaning, so that width is a case of its own.
 pub fn known(n: u8) -> Mask
@@ -55,7 +55,7 @@ pub fn count_of(counts: &[u8], k: usize) -> usize
 
 // Whether the set contains a mask of list k.
 fn holds<'a>(counts: &'a [u8], masks: &'a [Mask], k: usize, set: Mask) -> bool
-    requires { ⌜ (k < lists) × Sized (now counts) (now masks) ⌝ }
+    requires { ⌜ (k < lists) × GraphSized (now counts) (now masks) ⌝ }
     ensures { λ r. ⌜ r ≡ any (within set) (listOf (now (counts .entry)) (now (masks .entry)) k) ⌝ }
 {
     let from = MAX_MASKS * k;
@@ -71,7 +71,7 @@ pub fn some_contained<'a>(
     acceptors: u8,
     set: Mask,
 ) -> bool
-    requires { ⌜ (k < lists) × Sized (now counts) (now masks) ⌝ }
+    requires { ⌜ (k < lists) × GraphSized (now counts) (now masks) ⌝ }
     ensures { λ r. ⌜ r ≡ any (contains acceptors (has set)) (listOf (now (counts .entry)) (now (masks .entry)) k) ⌝ }
 {
     holds(counts, masks, k, set | !known(acceptors))
@@ -85,7 +85,7 @@ pub fn some_apart<'a>(
     acceptors: u8,
     set: Mask,
 ) -> bool
-    requires { ⌜ (k < lists) × Sized (now counts) (now masks) ⌝ }
+    requires { ⌜ (k < lists) × GraphSized (now counts) (now masks) ⌝ }
     ensures { λ r. ⌜ r ≡ any (apart acceptors (has set)) (listOf (now (counts .entry)) (now (masks .entry)) k) ⌝ }
 {
     holds(counts, masks, k, !(set & known(acceptors)))
@@ -119,25 +119,10 @@ pub fn is_quorum<'a>(
     a: usize,
     set: Mask,
 ) -> bool
-    requires { ⌜ (a < maxLearners) × Sized (now counts) (now masks) ⌝ }
+    requires { ⌜ (a < maxLearners) × GraphSized (now counts) (now masks) ⌝ }
     ensures { λ r. ⌜ ((l : ℕ) → r ≡ isQuorum (heldGraph acceptors l (now (counts .entry)) (now (masks .entry))) a (has set)) ⌝ }
 {
     some_contained(counts, masks, a, acceptors, set)
-}
-
-// Whether a set is a safe set of the pair a-b.
-pub fn holds_safe<'a>(
-    counts: &'a [u8],
-    masks: &'a [Mask],
-    acceptors: u8,
-    a: usize,
-    b: usize,
-    set: Mask,
-) -> bool
-    requires { ⌜ (a < maxLearners) × ((b < maxLearners) × Sized (now counts) (now masks)) ⌝ }
-    ensures { λ r. ⌜ ((l : ℕ) → r ≡ isSafe (heldGraph acceptors l (now (counts .entry)) (now (masks .entry))) a b (has set)) ⌝ }
-{
-    some_contained(counts, masks, pair_list(a, b), acceptors, set)
 }
 
 // Whether a listed safe mask of the pair a-b has no acceptor of the set.
@@ -149,7 +134,7 @@ pub fn safe_without<'a>(
     b: usize,
     set: Mask,
 ) -> bool
-    requires { ⌜ (a < maxLearners) × ((b < maxLearners) × Sized (now counts) (now masks)) ⌝ }
+    requires { ⌜ (a < maxLearners) × ((b < maxLearners) × GraphSized (now counts) (now masks)) ⌝ }
     ensures { λ r. ⌜ ((l : ℕ) → r ≡ safeWithout (heldGraph acceptors l (now (counts .entry)) (now (masks .entry))) a b (has set)) ⌝ }
 {
     some_apart(counts, masks, pair_list(a, b), acceptors, set)

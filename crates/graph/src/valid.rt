@@ -10,7 +10,7 @@ ghost use Prim.Native.Nat.{ℕ, _≤_, _<_};
 ghost use Rattle.base.specs.Tests.{all, below};
 ghost use Rattle.graph.specs.Limits.{maxLearners};
 ghost use Rattle.graph.specs.LearnerGraph.{common, validAt, valid};
-ghost use Rattle.graph.specs.Held.{listOf, heldGraph, Sized};
+ghost use Rattle.graph.specs.Memory.{listOf, heldGraph, GraphSized};
 
 // Every quorum of a and every quorum of b have an acceptor in common with each other and with s: no quorum of b is apart from what a quorum of
 // a has in common with s.
@@ -22,7 +22,7 @@ fn meets<'a>(
     b: usize,
     s: Mask,
 ) -> bool
-    requires { ⌜ (a < maxLearners) × ((b < maxLearners) × Sized (now counts) (now masks)) ⌝ }
+    requires { ⌜ (a < maxLearners) × ((b < maxLearners) × GraphSized (now counts) (now masks)) ⌝ }
     ensures { λ r. ⌜ ((l : ℕ) → r ≡ all (λ q. all (λ t. common (heldGraph acceptors l (now (counts .entry)) (now (masks .entry))) s q t) (listOf (now (counts .entry)) (now (masks .entry)) b)) (listOf (now (counts .entry)) (now (masks .entry)) a)) ⌝ }
 {
     let from = MAX_MASKS * a;
@@ -39,7 +39,7 @@ fn meets<'a>(
 
 // The same for every safe mask of a-b.
 fn valid_at<'a>(counts: &'a [u8], masks: &'a [Mask], acceptors: u8, a: usize, b: usize) -> bool
-    requires { ⌜ (a < maxLearners) × ((b < maxLearners) × Sized (now counts) (now masks)) ⌝ }
+    requires { ⌜ (a < maxLearners) × ((b < maxLearners) × GraphSized (now counts) (now masks)) ⌝ }
     ensures { λ r. ⌜ ((l : ℕ) → r ≡ validAt (heldGraph acceptors l (now (counts .entry)) (now (masks .entry))) a b) ⌝ }
 {
     let k = pair_list(a, b);
@@ -63,7 +63,7 @@ fn valid_row<'a>(
     learners: usize,
     a: usize,
 ) -> bool
-    requires { ⌜ (learners ≤ maxLearners) × ((a < maxLearners) × Sized (now counts) (now masks)) ⌝ }
+    requires { ⌜ (learners ≤ maxLearners) × ((a < maxLearners) × GraphSized (now counts) (now masks)) ⌝ }
     ensures { λ r. ⌜ r ≡ all (λ b. validAt (heldGraph acceptors learners (now (counts .entry)) (now (masks .entry))) a b) (below learners) ⌝ }
 {
     let mut b = learners;
@@ -78,7 +78,7 @@ fn valid_row<'a>(
 
 // Row 6: whether the graph is valid.
 pub fn is_valid<'a>(counts: &'a [u8], masks: &'a [Mask], acceptors: u8, learners: usize) -> bool
-    requires { ⌜ (learners ≤ maxLearners) × Sized (now counts) (now masks) ⌝ }
+    requires { ⌜ (learners ≤ maxLearners) × GraphSized (now counts) (now masks) ⌝ }
     ensures { λ r. ⌜ r ≡ valid (heldGraph acceptors learners (now (counts .entry)) (now (masks .entry))) ⌝ }
 {
     let mut a = learners;

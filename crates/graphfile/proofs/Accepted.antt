@@ -18,9 +18,9 @@ use Rattle.graph.specs.declared.Answer.the-variants.{Accepted, Refused}
 use Rattle.graph.specs.declared.Graph.{Graph}
 use Rattle.graph.specs.Limits.{version, maxLearners, maxAcceptors, maskBytes}
 use Rattle.graph.specs.LearnerGraph.{LearnerGraph, valid, condensed}
-use Rattle.graphfile.specs.File.{outerLen, versionAt, acceptorsAt, learnersAt, listsAt, Got, got, no, maskAnswer, readVersion, readCount, readMasks, readList, readLists, readRows, Contents, readGraph, contents, graphOf, answerOf, contentsAnswer}
-use Rattle.graph.specs.Held.{viewOf, pairList, triangle, listOf}
-use Rattle.graphfile.specs.Held.{heldOf, graphOfHeld, graphReading, contentsReading, readingOf}
+use Rattle.graphfile.specs.File.{outerLen, versionAt, acceptorsAt, learnersAt, listsAt, Got, got, no, maskAnswer, readVersion, readCount, readMasks, readList, readLists, readRows, Contents, readGraph, contents, graphSaid, answerOf, contentsAnswer}
+use Rattle.graph.specs.Memory.{viewOf, pairList, triangle, listOf}
+use Rattle.graphfile.specs.Arrays.{heldOf, graphOfHeld, graphReading, contentsReading, readingOf}
 use Rattle.graph.specs.Theorems.{SameGraph, Undirected}
 use Rattle.graphfile.specs.Writer.{masksBytes, listBytes, listsBytes, rowsBytes, bodyBytes, fileBytes}
 use Rattle.graphfile.specs.Theorems.{HeldSaysTheSame, AcceptedIsSound, FilesDiffer, FileWrittenBack}
@@ -113,14 +113,14 @@ pub record Passed (s : List ℕ) : Type 0 where
   pub file : Contents
   pub end : ℕ
   pub is : contents s ≡ got file end
-  pub isValid : valid (graphOf file) ≡ true
-  pub isCondensed : condensed (graphOf file) ≡ true
+  pub isValid : valid (graphSaid file) ≡ true
+  pub isCondensed : condensed (graphSaid file) ≡ true
   pub held : readingOf s .graph ≡ graphOfHeld (file .acceptors) (file .learners) (heldOf file)
 
 pub passed : (s : List ℕ) → answerOf s ≡ Accepted → Passed s
 passed s e = by (contents s) refl e
   where
-    checks : (f : Contents) (end : ℕ) → contents s ≡ got f end → (v c : Bool) → valid (graphOf f) ≡ v → condensed (graphOf f) ≡ c
+    checks : (f : Contents) (end : ℕ) → contents s ≡ got f end → (v c : Bool) → valid (graphSaid f) ≡ v → condensed (graphSaid f) ≡ c
         → pick v (pick c Accepted (Refused NotCondensed)) (Refused NotValid) ≡ Accepted → Passed s
     checks f end g true true p q e =
         record {
@@ -135,13 +135,13 @@ passed s e = by (contents s) refl e
     checks f end g false c p q e = let z : _≡_ {A = ℕ} 0 1 = cc in absurd (omega arith)
 
     by : (g : Got Contents) → contents s ≡ g → contentsAnswer g ≡ Accepted → Passed s
-    by (got f end) g e = checks f end g (valid (graphOf f)) (condensed (graphOf f)) refl refl e
+    by (got f end) g e = checks f end g (valid (graphSaid f)) (condensed (graphSaid f)) refl refl e
     by (no r) g e = let z : _≡_ {A = ℕ} 0 1 = cc in absurd (omega arith)
 
-held-file : (s : List ℕ) (P : Passed s) → SameGraph (viewOf (readingOf s .graph)) (graphOf (P .file))
+held-file : (s : List ℕ) (P : Passed s) → SameGraph (viewOf (readingOf s .graph)) (graphSaid (P .file))
 held-file s P =
     let F = file-got s (P .file) (P .end) (P .is) in
-    subst (λ (g : Graph). SameGraph (viewOf g) (graphOf (P .file))) (sym (P .held))
+    subst (λ (g : Graph). SameGraph (viewOf g) (graphSaid (P .file))) (sym (P .held))
     (held-same (P .file .acceptors) (P .file .learners) (P .file) (F .few) (graph-got s (P .file .acceptors) (P .file .learners) 5 (P .file) (length s) (F .long) (F .lists)))
 
 pub heldSaysTheSame : HeldSaysTheSame
@@ -166,8 +166,8 @@ acceptedIsSound s e =
     let S = held-file s P in
     record {
       undirected = view-undirected (readingOf s .graph);
-      isValid = subst T (sym (valid-same (viewOf (readingOf s .graph)) (graphOf (P .file)) S ∙ P .isValid)) tt;
-      isCondensed = subst T (sym (condensed-same (viewOf (readingOf s .graph)) (graphOf (P .file)) S ∙ P .isCondensed)) tt;
+      isValid = subst T (sym (valid-same (viewOf (readingOf s .graph)) (graphSaid (P .file)) S ∙ P .isValid)) tt;
+      isCondensed = subst T (sym (condensed-same (viewOf (readingOf s .graph)) (graphSaid (P .file)) S ∙ P .isCondensed)) tt;
     }
 
 -- ---- the bytes of a file follow from what it says
@@ -265,9 +265,9 @@ rows-ext (suc k) (r ∷ rs) (t ∷ ss) p q h =
     (rows-ext k rs ss (p .2) (q .2) (λ x y l. h (suc x) y (omega arith)))
 
 -- contents that give the same graph are one
-contents-ext : (l : ℕ) (f g : Contents) → GraphGot (f .acceptors) l f → GraphGot (g .acceptors) l g → SameGraph (graphOf f) (graphOf g)
+contents-ext : (l : ℕ) (f g : Contents) → GraphGot (f .acceptors) l f → GraphGot (g .acceptors) l g → SameGraph (graphSaid f) (graphSaid g)
     → (f .quorums ≡ g .quorums) × (f .rows ≡ g .rows)
-unfolding graphOf
+unfolding graphSaid
 contents-ext l f g F G S =
     let fl = F .learners in
     let n = F .many in
@@ -296,7 +296,7 @@ same-trans G H K L p q r =
     }
 
 pub filesDiffer : FilesDiffer
-unfolding graphOf
+unfolding graphSaid
 filesDiffer s t bs bt es et same =
     let P = passed s es in
     let Q = passed t et in
@@ -304,7 +304,7 @@ filesDiffer s t bs bt es et same =
     let g = Q .file in
     let F = file-got s f (P .end) (P .is) in
     let G = file-got t g (Q .end) (Q .is) in
-    let S = same-trans (viewOf (readingOf s .graph)) (graphOf f) (viewOf (readingOf t .graph)) (graphOf g) (held-file s P) (held-file t Q) same in
+    let S = same-trans (viewOf (readingOf s .graph)) (graphSaid f) (viewOf (readingOf t .graph)) (graphSaid g) (held-file s P) (held-file t Q) same in
     let ea : f .acceptors ≡ g .acceptors = S .acceptors in
     let el : f .learners ≡ g .learners = S .learners in
     let (eq, er) = contents-ext (f .learners) f g (graph-got s (f .acceptors) (f .learners) 5 f (length s) (F .long) (F .lists))

@@ -5,7 +5,7 @@ pub mod View
 -- What holds of an accepted file
 pub mod Accepted
 -- The whole file, from the answers of the steps that read it
-pub mod Whole
+pub mod Files
 -- Every listed quorum of an accepted file names an acceptor
 pub mod Peopled
 -- The writer of graph files

@@ -16,9 +16,9 @@ use Rattle.base.proofs.Bits.{some-bit}
 use Rattle.base.specs.declared.refusal.Refusal.the-variants.{Length, Order, Mask}
 use Rattle.graph.specs.declared.Answer.the-variants.{Accepted, Refused}
 use Rattle.graph.specs.Limits.{maxMasks}
-use Rattle.graphfile.specs.File.{got, no, last, maskAnswer, readCount, readMasks, readList, readLists, readRows, readGraph, Contents, graphOf, answerOf}
-use Rattle.graph.specs.Held.{viewOf}
-use Rattle.graphfile.specs.Held.{readingOf}
+use Rattle.graphfile.specs.File.{got, no, last, maskAnswer, readCount, readMasks, readList, readLists, readRows, readGraph, Contents, graphSaid, answerOf}
+use Rattle.graph.specs.Memory.{viewOf}
+use Rattle.graphfile.specs.Arrays.{readingOf}
 use Rattle.graphfile.proofs.Reader.{pick-got, check-got, then-got}
 use Rattle.graphfile.proofs.Accepted.{file-got, heldSaysTheSame}
 
@@ -106,7 +106,7 @@ listed P (l ∷ ls) (suc a) z h = listed P ls a z (λ k m. h k (List·Memᴰ·ta
 
 pub accepted-peopled : (s : List ℕ) → answerOf s ≡ Accepted → (a q : ℕ) → a < viewOf (readingOf s .graph) .learners → q ∈ viewOf (readingOf s .graph) .quorums a
     → Names (viewOf (readingOf s .graph) .acceptors) q
-unfolding graphOf
+unfolding graphSaid
 accepted-peopled s e a q l m =
     let (f, end, c, same) = heldSaysTheSame s e in
     let F = file-got s f end c in

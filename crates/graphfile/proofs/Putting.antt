@@ -13,8 +13,8 @@ use Rattle.base.specs.Tests.{all}
 use Rattle.base.specs.Bytes.{bytes, putAt}
 use Rattle.base.proofs.Bytes.{bytes-length, putAt-none, putAt-more}
 use Rattle.graph.specs.Limits.{version, maxLearners, maxMasks, maskBytes, lists}
-use Rattle.graph.specs.Held.{heldGraph, listOf, pairList, triangle, Sized}
-use Rattle.graph.proofs.Held.{list-is}
+use Rattle.graph.specs.Memory.{heldGraph, listOf, pairList, triangle, GraphSized}
+use Rattle.graph.proofs.Memory.{list-is}
 use Rattle.graphfile.specs.File.{outerLen, versionAt, acceptorsAt, learnersAt, listsAt, Contents}
 use Rattle.graphfile.specs.Writer.{masksBytes, listBytes, listsBytes, rowsBytes, bodyBytes, fileBytes, listed, rowsFrom, contentsOf, fitsMask, MasksFit, PutIn}
 use Rattle.graphfile.proofs.View.{triangle-up}
@@ -195,7 +195,7 @@ module _ (f : ℕ → ℕ → List ℕ) (l : ℕ) (w : List ℕ) (at : ℕ) (b :
     rows-all h = putting-all w (rowsBytes (rowsFrom f a (l - a))) at here b x P (rows-none f a l h)
 
 -- ---- one list: its count, and its masks behind it
-module _ (counts masks : List ℕ) (k n : ℕ) (z : Sized counts masks) (lk : k < lists) (e : n ≡ min (getD counts k 0) maxMasks) where
+module _ (counts masks : List ℕ) (k n : ℕ) (z : GraphSized counts masks) (lk : k < lists) (e : n ≡ min (getD counts k 0) maxMasks) where
   list-bytes : listBytes (listOf counts masks k) ≡ n ∷ masksBytes (slice (maxMasks * k) (maxMasks * k + n) masks)
   list-bytes =
       let s = slice (maxMasks * k) (maxMasks * k + n) masks in

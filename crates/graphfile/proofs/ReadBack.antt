@@ -17,10 +17,10 @@ use Rattle.graph.specs.declared.Answer.the-variants.{Accepted}
 use Rattle.graph.specs.declared.Graph.{Graph}
 use Rattle.graph.specs.Limits.{maxAcceptors, maxLearners, maxMasks, maskBytes}
 use Rattle.graph.specs.LearnerGraph.{LearnerGraph}
-use Rattle.graph.specs.Held.{heldGraph, listOf, viewOf}
+use Rattle.graph.specs.Memory.{heldGraph, listOf, viewOf}
 use Rattle.graph.specs.Theorems.{SameGraph}
-use Rattle.graphfile.specs.File.{outerLen, acceptorsAt, learnersAt, listsAt, Got, got, no, andThen, maskAnswer, readCount, readMasks, readList, readLists, readRows, readGraph, contents, graphOf}
-use Rattle.graphfile.specs.Held.{heldReading, heldOf, fieldOf}
+use Rattle.graphfile.specs.File.{outerLen, acceptorsAt, learnersAt, listsAt, Got, got, no, andThen, maskAnswer, readCount, readMasks, readList, readLists, readRows, readGraph, contents, graphSaid}
+use Rattle.graphfile.specs.Arrays.{heldReading, heldOf, fieldOf}
 use Rattle.graphfile.specs.declared.Reading.{Reading}
 use Rattle.graphfile.specs.Writer.{masksBytes, listBytes, listsBytes, rowsBytes, bodyBytes, fileBytes, listed, rowsFrom, contentsOf, graphFile}
 use Rattle.graphfile.specs.Theorems.{ListInOrder, InOrder, ReadBack, GraphReadsBack}
@@ -28,7 +28,7 @@ use Rattle.graphfile.proofs.Reader.{masks-go, graph-got}
 use Rattle.graphfile.proofs.View.{held-same, pair-ordered}
 use Rattle.graphfile.proofs.Peopled.{passed-mask}
 use Rattle.graphfile.proofs.Accepted.{file-got}
-use Rattle.graphfile.proofs.Whole.{lists-behind}
+use Rattle.graphfile.proofs.Files.{lists-behind}
 use Rattle.graphfile.proofs.Putting.{masks-length, file-length, file-most, body-length}
 
 -- ---- what is left behind a piece, and what is read from its front
@@ -171,8 +171,8 @@ rows-get f a (suc k) (suc i) j h =
     let e : suc a + i ≡ a + suc i = omega arith in
     rows-get f (suc a) k i j (omega arith) ∙ (λ t. f (e t) (e t + j))
 
-contents-same : (g : Graph) → SameGraph (graphOf (contentsOf (viewOf g))) (viewOf g)
-unfolding graphOf
+contents-same : (g : Graph) → SameGraph (graphSaid (contentsOf (viewOf g))) (viewOf g)
+unfolding graphSaid
 contents-same g = record { acceptors = refl; learners = refl; quorums = λ a h. quorum a h; safes = λ a b p q. safe a b p q }
   where
     G : LearnerGraph
@@ -208,4 +208,4 @@ graphReadsBack g o =
     let F = file-got s f (length s) c in
     let S = held-same (g .acceptors) (g .learners) f (o .mostLearners) (graph-got s (g .acceptors) (g .learners) listsAt f (length s) (F .long) (F .lists)) in
     subst (λ (r : Reading). ReadBack g r) (sym (ap heldReading c))
-    (record { accepted = refl; same = same-through (heldGraph (g .acceptors) (g .learners) (heldOf f .counts) (heldOf f .masks)) (graphOf f) G S (contents-same g) })
+    (record { accepted = refl; same = same-through (heldGraph (g .acceptors) (g .learners) (heldOf f .counts) (heldOf f .masks)) (graphSaid f) G S (contents-same g) })

@@ -22,8 +22,8 @@ use Rattle.graphfile.specs.declared.file.Field.{Field}
 use Rattle.graphfile.specs.declared.file.Field.the-variants as Field
 use Rattle.graph.specs.Limits.{maxMasks}
 use Rattle.graphfile.specs.File.{Got, got, no, andThen, afterCheck, last, maskAnswer, readCount, readMasks, readList, readLists, readRows, Contents, readGraph}
-use Rattle.graph.specs.Held.{pairList}
-use Rattle.graphfile.specs.Held.{Held, hold, holdAll, holdRows, fieldOf, MasksHeld, HeldAfter}
+use Rattle.graph.specs.Memory.{pairList}
+use Rattle.graphfile.specs.Arrays.{ListArrays, hold, holdAll, holdRows, fieldOf, MasksHeld, HeldAfter}
 
 -- ---- lists
 pub last-snoc : (d : ℕ) (l : List ℕ) (m : ℕ) → last d (l ++ (m ∷ [])) ≡ m
@@ -162,7 +162,7 @@ module _ (first : ℕ) (b a : List ℕ) where
   held-no (got l m) f r h e = let z : _≡_ {A = ℕ} 0 1 = cc (h .0) in absurd (omega arith)
   held-no (no q) f r h e = ap no (cc)
 
-module _ {A : Type 0} (put : A → Held) (h : Held) where
+module _ {A : Type 0} (put : A → ListArrays) (h : ListArrays) where
   pub after-got : (g : Got A) (f : Field) (next : ℕ) → HeldAfter g put f h → f ≡ Field.Is next → (x : A) × (g ≡ got x next) × (h ≡ put x)
   after-got (got x m) f next p e = let q : m ≡ next = cc (p .0) in (x, ap (got x) q, p .1)
   after-got (no r) f next p e = let z : _≡_ {A = ℕ} 0 1 = cc in absurd (omega arith)
@@ -172,14 +172,14 @@ module _ {A : Type 0} (put : A → Held) (h : Held) where
   after-no (no q) f r p e = ap no (cc)
 
 -- ---- one list, or one row, put in behind the others
-pub hold-more : (f : ℕ → ℕ) (i : ℕ) (ls : List (List ℕ)) (l : List ℕ) (h : Held) → holdAll f i (ls ++ (l ∷ [])) h ≡ hold (f (i + length ls)) l (holdAll f i ls h)
+pub hold-more : (f : ℕ → ℕ) (i : ℕ) (ls : List (List ℕ)) (l : List ℕ) (h : ListArrays) → holdAll f i (ls ++ (l ∷ [])) h ≡ hold (f (i + length ls)) l (holdAll f i ls h)
 unfolding holdAll
 hold-more f i [] l h = ap (λ (k : ℕ). hold (f k) l h) (sym (add-zero i))
 hold-more f i (x ∷ ls) l h =
     hold-more f (suc i) ls l (hold (f i) x h)
     ∙ ap (λ (k : ℕ). hold (f k) l (holdAll f (suc i) ls (hold (f i) x h))) (let e : suc i + length ls ≡ i + suc (length ls) = omega arith in e)
 
-pub rows-more : (a : ℕ) (rs : List (List (List ℕ))) (r : List (List ℕ)) (h : Held)
+pub rows-more : (a : ℕ) (rs : List (List (List ℕ))) (r : List (List ℕ)) (h : ListArrays)
     → holdRows a (rs ++ (r ∷ [])) h ≡ holdAll (pairList (a + length rs)) (a + length rs) r (holdRows a rs h)
 unfolding holdRows
 rows-more a [] r h = ap (λ (k : ℕ). holdAll (pairList k) k r h) (sym (add-zero a))
@@ -188,13 +188,13 @@ rows-more a (x ∷ rs) r h =
     ∙ ap (λ (k : ℕ). holdAll (pairList k) k r (holdRows (suc a) rs (holdAll (pairList a) a x h))) (let e : suc a + length rs ≡ a + suc (length rs) = omega arith in e)
 
 -- ---- the lists of a loop: those that were read are put in, and the others are still to be read
-pub record Filled (s : List ℕ) (n low total at first : ℕ) (f : ℕ → ℕ) (before : Held) (here i : ℕ) (after : Held) : Type 0 where
+pub record Filled (s : List ℕ) (n low total at first : ℕ) (f : ℕ → ℕ) (before : ListArrays) (here i : ℕ) (after : ListArrays) : Type 0 where
   pub read : List (List ℕ)
   pub many : length read ≡ i
   pub held : after ≡ holdAll f first read before
   pub rest : readLists s n low total [] at ≡ readLists s n low (total - i) read here
 
-module _ (s : List ℕ) (n low total at first : ℕ) (f : ℕ → ℕ) (before : Held) (here i : ℕ) (after : Held) (F : Filled s n low total at first f before here i after) where
+module _ (s : List ℕ) (n low total at first : ℕ) (f : ℕ → ℕ) (before : ListArrays) (here i : ℕ) (after : ListArrays) (F : Filled s n low total at first f before here i after) where
   step : i < total → total - i ≡ suc (total - (i + 1))
   step h = omega arith
 
@@ -233,7 +233,7 @@ module _ (s : List ℕ) (n low total at first : ℕ) (f : ℕ → ℕ) (before :
   unfolding readLists
   filled-all h = let e : total - i ≡ 0 = omega arith in F .rest ∙ ap (λ (k : ℕ). readLists s n low k (F .read) here) e
 
-pub filled-none : (s : List ℕ) (n low total at first : ℕ) (f : ℕ → ℕ) (before : Held) → Filled s n low total at first f before at 0 before
+pub filled-none : (s : List ℕ) (n low total at first : ℕ) (f : ℕ → ℕ) (before : ListArrays) → Filled s n low total at first f before at 0 before
 unfolding holdAll
 filled-none s n low total at first f before =
     let e : total ≡ total - 0 = omega arith in
@@ -266,13 +266,13 @@ lists-got s n low (suc k) e at ls next h q f =
     (omega arith, y, z)
 
 -- ---- the same of rows
-pub record RowsFilled (s : List ℕ) (n l at : ℕ) (before : Held) (here a : ℕ) (after : Held) : Type 0 where
+pub record RowsFilled (s : List ℕ) (n l at : ℕ) (before : ListArrays) (here a : ℕ) (after : ListArrays) : Type 0 where
   pub read : List (List (List ℕ))
   pub many : length read ≡ a
   pub held : after ≡ holdRows 0 read before
   pub rest : readRows s n l [] at ≡ readRows s n (l - a) read here
 
-module _ (s : List ℕ) (n l at : ℕ) (before : Held) (here a : ℕ) (after : Held) (F : RowsFilled s n l at before here a after) where
+module _ (s : List ℕ) (n l at : ℕ) (before : ListArrays) (here a : ℕ) (after : ListArrays) (F : RowsFilled s n l at before here a after) where
   next-row : (g : Got (List (List ℕ))) → a < l → readLists s n 0 (l - a) [] here ≡ g
       → readRows s n l [] at ≡ andThen g (λ row at′. readRows s n (l - (a + 1)) (F .read ++ (row ∷ [])) at′)
   unfolding readRows
@@ -281,11 +281,11 @@ module _ (s : List ℕ) (n l at : ℕ) (before : Held) (here a : ℕ) (after : H
       F .rest ∙ ap (λ (k : ℕ). readRows s n k (F .read) here) k
       ∙ ap (λ (x : Got (List (List ℕ))). andThen x (λ row at′. readRows s n (l - (a + 1)) (F .read ++ (row ∷ [])) at′)) (ap (λ (k : ℕ). readLists s n 0 k [] here) (sym k) ∙ e)
 
-  pub rows-no : (after′ : Held) (r : Field) (x : Refusal) → a < l → HeldAfter (readLists s n 0 (l - a) [] here) (λ ls. holdAll (pairList a) a ls after) r after′
+  pub rows-no : (after′ : ListArrays) (r : Field) (x : Refusal) → a < l → HeldAfter (readLists s n 0 (l - a) [] here) (λ ls. holdAll (pairList a) a ls after) r after′
       → r ≡ Field.Refused x → readRows s n l [] at ≡ no x
   rows-no after′ r x h p e = next-row (no x) h (after-no (λ ls. holdAll (pairList a) a ls after) after′ (readLists s n 0 (l - a) [] here) r x p e)
 
-  pub rows-filled : (after′ : Held) (r : Field) (next : ℕ) → a < l → here ≤ length s → HeldAfter (readLists s n 0 (l - a) [] here) (λ ls. holdAll (pairList a) a ls after) r after′
+  pub rows-filled : (after′ : ListArrays) (r : Field) (next : ℕ) → a < l → here ≤ length s → HeldAfter (readLists s n 0 (l - a) [] here) (λ ls. holdAll (pairList a) a ls after) r after′
       → r ≡ Field.Is next → (next ≤ length s) × RowsFilled s n l at before next (a + 1) after′
   rows-filled after′ r next h i p e =
       let (row, g, q) = after-got (λ ls. holdAll (pairList a) a ls after) after′ (readLists s n 0 (l - a) [] here) r next p e in
@@ -304,7 +304,7 @@ module _ (s : List ℕ) (n l at : ℕ) (before : Held) (here a : ℕ) (after : H
   unfolding readRows
   rows-all h = let e : l - a ≡ 0 = omega arith in F .rest ∙ ap (λ (k : ℕ). readRows s n k (F .read) here) e
 
-pub rows-none : (s : List ℕ) (n l at : ℕ) (before : Held) → RowsFilled s n l at before at 0 before
+pub rows-none : (s : List ℕ) (n l at : ℕ) (before : ListArrays) → RowsFilled s n l at before at 0 before
 unfolding holdRows
 rows-none s n l at before = let e : l ≡ l - 0 = omega arith in record { read = []; many = refl; held = refl; rest = ap (λ (k : ℕ). readRows s n k [] at) e }
 

@@ -10,10 +10,10 @@ use lib.ListN.{length, getD, set, take, drop, length-set, length-append, List·g
 use lib.Seq.{slice, sets-eq, length-sets, length-slice, length-take-le, getD-set-same, getD-set-other, getD-take, getD-drop, getD-append-add, ext-getD}
 use Rattle.base.specs.Bytes.{putAt}
 use Rattle.graph.specs.Limits.{maxMasks, maxLearners, lists}
-use Rattle.graph.specs.Held.{heldGraph, triangle, pairList, listOf, Sized}
-use Rattle.graphfile.specs.Held.{Held, hold, holdAll, holdRows, nothing, heldOf}
+use Rattle.graph.specs.Memory.{heldGraph, triangle, pairList, listOf, GraphSized}
+use Rattle.graphfile.specs.Arrays.{ListArrays, hold, holdAll, holdRows, nothing, heldOf}
 use Rattle.graphfile.proofs.Reader.{Small, Rows, GraphGot, part-put}
-use Rattle.graphfile.specs.File.{Contents, graphOf}
+use Rattle.graphfile.specs.File.{Contents, graphSaid}
 use Rattle.graph.specs.Theorems.{SameGraph}
 
 -- ---- writing into a list
@@ -60,13 +60,13 @@ slice-put-other m l at f t h k c =
         ∙ sym (getD-drop f (take t m) i 0 ∙ getD-take t m (f + i) 0 (omega arith))
 
 -- ---- one list put in
-abbrev pub heldList : Held → ℕ → List ℕ
+abbrev pub heldList : ListArrays → ℕ → List ℕ
 heldList h k = listOf (h .counts) (h .masks) k
 
-abbrev pub Fits : Held → Type 0
-Fits h = Sized (h .counts) (h .masks)
+abbrev pub Fits : ListArrays → Type 0
+Fits h = GraphSized (h .counts) (h .masks)
 
-module _ (k : ℕ) (l : List ℕ) (h : Held) (z : Fits h) (lk : k < lists) (s : length l ≤ maxMasks) where
+module _ (k : ℕ) (l : List ℕ) (h : ListArrays) (z : Fits h) (lk : k < lists) (s : length l ≤ maxMasks) where
   pub hold-fits : Fits (hold k l h)
   hold-fits = (length-set (h .counts) k (length l) ∙ z .0, length-put (h .masks) l (maxMasks * k) (omega arith) ∙ z .1)
 
@@ -94,13 +94,13 @@ module _ (f : ℕ → ℕ) (inj : (i j : ℕ) → f i ≡ f j → i ≡ j) where
   abbrev pub Room : ℕ → ℕ → Type 0
   Room i n = (j : ℕ) → i ≤ j → j < i + n → f j < lists
 
-  pub all-fits : (i : ℕ) (ls : List (List ℕ)) (h : Held) → Fits h → Small ls → Room i (length ls) → Fits (holdAll f i ls h)
+  pub all-fits : (i : ℕ) (ls : List (List ℕ)) (h : ListArrays) → Fits h → Small ls → Room i (length ls) → Fits (holdAll f i ls h)
   unfolding holdAll
   all-fits i [] h z s r = z
   all-fits i (l ∷ ls) h z s r =
       all-fits (suc i) ls (hold (f i) l h) (hold-fits (f i) l h z (r i (omega arith) (omega arith)) (s l (List·Memᴰ·head refl))) (λ x m. s x (List·Memᴰ·tail m)) (λ j a b. r j (omega arith) (omega arith))
 
-  pub all-other : (i : ℕ) (ls : List (List ℕ)) (h : Held) → Fits h → Small ls → Room i (length ls) → (k : ℕ) → k < lists → ((j : ℕ) → i ≤ j → j < i + length ls → k ≢ f j)
+  pub all-other : (i : ℕ) (ls : List (List ℕ)) (h : ListArrays) → Fits h → Small ls → Room i (length ls) → (k : ℕ) → k < lists → ((j : ℕ) → i ≤ j → j < i + length ls → k ≢ f j)
       → heldList (holdAll f i ls h) k ≡ heldList h k
   unfolding holdAll
   all-other i [] h z s r k lk d = refl
@@ -110,7 +110,7 @@ module _ (f : ℕ → ℕ) (inj : (i j : ℕ) → f i ≡ f j → i ≡ j) where
       all-other (suc i) ls (hold (f i) l h) (hold-fits (f i) l h z ri sl) (λ x m. s x (List·Memᴰ·tail m)) (λ j a b. r j (omega arith) (omega arith)) k lk (λ j a b. d j (omega arith) (omega arith))
       ∙ hold-other (f i) l h z ri sl k lk (d i (omega arith) (omega arith))
 
-  pub all-same : (i : ℕ) (ls : List (List ℕ)) (h : Held) → Fits h → Small ls → Room i (length ls) → (x : ℕ) → x < length ls → heldList (holdAll f i ls h) (f (i + x)) ≡ getD ls x []
+  pub all-same : (i : ℕ) (ls : List (List ℕ)) (h : ListArrays) → Fits h → Small ls → Room i (length ls) → (x : ℕ) → x < length ls → heldList (holdAll f i ls h) (f (i + x)) ≡ getD ls x []
   unfolding holdAll
   all-same i [] h z s r x lx = absurd (omega arith)
   all-same i (l ∷ ls) h z s r zero lx =
@@ -168,7 +168,7 @@ pair-ordered a b = λ i. maxLearners + (triangle (high (min a b) (max a b) (omeg
     low x y h = omega arith
 
 -- ---- rows put in one behind the other, the first being that of learner a
-pub rows-fits : (a k : ℕ) (rs : List (List (List ℕ))) (h : Held) → a + k ≤ maxLearners → Rows k rs → Fits h → Fits (holdRows a rs h)
+pub rows-fits : (a k : ℕ) (rs : List (List (List ℕ))) (h : ListArrays) → a + k ≤ maxLearners → Rows k rs → Fits h → Fits (holdRows a rs h)
 unfolding holdRows
 rows-fits a zero rs h r t z = subst (λ (x : List (List (List ℕ))). Fits (holdRows a x h)) (sym t) z
 rows-fits a (suc k) [] h r t z = absurd t
@@ -176,7 +176,7 @@ rows-fits a (suc k) (x ∷ rs) h r t z =
     rows-fits (suc a) k rs (holdAll (pairList a) a x h) (omega arith) (t .2)
     (all-fits (pairList a) (pair-inj-right a) a x h z (t .1) (λ j p q. let n = t .0 in pair-room a j (omega arith) (omega arith)))
 
-pub rows-other : (a k : ℕ) (rs : List (List (List ℕ))) (h : Held) → a + k ≤ maxLearners → Rows k rs → Fits h → (m : ℕ) → m < lists
+pub rows-other : (a k : ℕ) (rs : List (List (List ℕ))) (h : ListArrays) → a + k ≤ maxLearners → Rows k rs → Fits h → (m : ℕ) → m < lists
     → ((x y : ℕ) → a ≤ x → x ≤ y → m ≢ pairList x y) → heldList (holdRows a rs h) m ≡ heldList h m
 unfolding holdRows
 rows-other a zero rs h r t z m lm d = ap (λ (x : List (List (List ℕ))). heldList (holdRows a x h) m) t
@@ -186,7 +186,7 @@ rows-other a (suc k) (x ∷ rs) h r t z m lm d =
     rows-other (suc a) k rs (holdAll (pairList a) a x h) (omega arith) (t .2) (all-fits (pairList a) (pair-inj-right a) a x h z (t .1) room) m lm (λ i j p q. d i j (omega arith) q)
     ∙ all-other (pairList a) (pair-inj-right a) a x h z (t .1) room m lm (λ j p q. d a j (omega arith) p)
 
-pub rows-same : (a k : ℕ) (rs : List (List (List ℕ))) (h : Held) → a + k ≤ maxLearners → Rows k rs → Fits h → (x y : ℕ) → x + y < k
+pub rows-same : (a k : ℕ) (rs : List (List (List ℕ))) (h : ListArrays) → a + k ≤ maxLearners → Rows k rs → Fits h → (x y : ℕ) → x + y < k
     → heldList (holdRows a rs h) (pairList (a + x) (a + x + y)) ≡ getD (getD rs x []) y []
 unfolding holdRows
 rows-same a zero rs h r t z x y l = absurd (omega arith)
@@ -209,11 +209,11 @@ rows-same a (suc k) (w ∷ rs) h r t z (suc x) y l =
 nothing-fits : Fits nothing
 nothing-fits = (refl, refl)
 
-pub held-same : (n l : ℕ) (f : Contents) → l ≤ maxLearners → GraphGot n l f → SameGraph (heldGraph n l (heldOf f .counts) (heldOf f .masks)) (graphOf f)
-unfolding heldOf graphOf
+pub held-same : (n l : ℕ) (f : Contents) → l ≤ maxLearners → GraphGot n l f → SameGraph (heldGraph n l (heldOf f .counts) (heldOf f .masks)) (graphSaid f)
+unfolding heldOf graphSaid
 held-same n l f h g = record { acceptors = sym (g .acceptors); learners = sym (g .learners); quorums = quorums; safes = safes }
   where
-    Q : Held
+    Q : ListArrays
     Q = holdAll (λ a. a) 0 (f .quorums) nothing
 
     room : Room (λ a. a) (λ i j e. e) 0 (length (f .quorums))

@@ -21,6 +21,10 @@ use Rattle.graph.specs.Answers.{graphAnswer}
 abbrev pub outerLen : ℕ
 outerLen = 2
 
+-- The longest file whose length they can say.
+abbrev pub mostSaid : ℕ
+mostSaid = outerLen + (256 ^ outerLen - 1)
+
 -- "Version 1. Acceptors n .. Learners l .."
 abbrev pub versionAt : ℕ
 versionAt = outerLen
@@ -116,8 +120,8 @@ contents s =
     (no Length)
 
 -- The graph of a file. A pair is the same either way round.
-unfoldable pub graphOf : Contents → LearnerGraph
-graphOf f =
+unfoldable pub graphSaid : Contents → LearnerGraph
+graphSaid f =
     record {
       acceptors = f .acceptors;
       learners = f .learners;
@@ -127,7 +131,7 @@ graphOf f =
 
 -- "6 and 7 come last"
 abbrev pub contentsAnswer : Got Contents → Answer
-contentsAnswer (got f at) = graphAnswer (graphOf f)
+contentsAnswer (got f at) = graphAnswer (graphSaid f)
 contentsAnswer (no r) = Refused r
 
 -- Whether a file is accepted, or why not.

@@ -1,7 +1,7 @@
 -- The graph file, read from a list of bytes
 pub mod File
 -- How its lists are held in memory
-pub mod Held
+pub mod Arrays
 -- The bytes of the file of a graph
 pub mod Writer
 -- What holds of an accepted file

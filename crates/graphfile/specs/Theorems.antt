@@ -9,16 +9,16 @@ use Rattle.graph.specs.declared.Answer.the-variants.{Accepted}
 use Rattle.graph.specs.declared.Graph.{Graph}
 use Rattle.graph.specs.Limits.{maxAcceptors, maxLearners, maxMasks}
 use Rattle.graph.specs.LearnerGraph.{LearnerGraph, valid, condensed}
-use Rattle.graph.specs.Held.{viewOf}
+use Rattle.graph.specs.Memory.{viewOf}
 use Rattle.graph.specs.Theorems.{Undirected, SameGraph}
 use Rattle.graphfile.specs.declared.Reading.{Reading}
-use Rattle.graphfile.specs.File.{Contents, contents, got, maskAnswer, graphOf, answerOf}
-use Rattle.graphfile.specs.Held.{heldReading, readingOf}
+use Rattle.graphfile.specs.File.{Contents, contents, got, maskAnswer, graphSaid, answerOf}
+use Rattle.graphfile.specs.Arrays.{heldReading, readingOf}
 use Rattle.graphfile.specs.Writer.{fileBytes, graphFile}
 
 -- The graph in memory lists the same masks in the same order as the file.
 abbrev pub HeldSaysTheSame : Type 0
-HeldSaysTheSame = (s : List ℕ) → answerOf s ≡ Accepted → (f : Contents) × (end : ℕ) × (contents s ≡ got f end) × SameGraph (viewOf (readingOf s .graph)) (graphOf f)
+HeldSaysTheSame = (s : List ℕ) → answerOf s ≡ Accepted → (f : Contents) × (end : ℕ) × (contents s ≡ got f end) × SameGraph (viewOf (readingOf s .graph)) (graphSaid f)
 
 -- It is undirected, valid and condensed.
 pub record Sound (G : LearnerGraph) : Type 0 where

@@ -11,7 +11,7 @@ use Rattle.base.specs.declared.refusal.Refusal.the-variants.{Argument}
 use Rattle.graph.specs.declared.Graph.{Graph}
 use Rattle.graph.specs.Limits.{version, maxLearners, maxMasks, maskBytes}
 use Rattle.graph.specs.LearnerGraph.{LearnerGraph}
-use Rattle.graph.specs.Held.{listOf, pairList, viewOf, Sized}
+use Rattle.graph.specs.Memory.{listOf, pairList, viewOf}
 use Rattle.graphfile.specs.declared.Written.{Written}
 use Rattle.graphfile.specs.declared.Written.the-variants.{Bytes, NotWritten}
 use Rattle.graphfile.specs.File.{outerLen, Contents}
@@ -85,11 +85,6 @@ writeTo g buffer = pick (writable g buffer) (graphFile g ++ drop (length (graphF
 -- ---- what the steps of `write` hold to and answer
 abbrev pub MasksFit : List ℕ → Type 0
 MasksFit masks = (i : ℕ) → getD masks i 0 < 256 ^ maskBytes
-
--- the lists of a graph in memory, with no more learners than there is room for
-pub record InMemory (counts masks : List ℕ) (learners : ℕ) : Type 0 where
-  pub few : learners ≤ maxLearners
-  pub sized : Sized counts masks
 
 -- masks that a file can say, and room for e from `at` on
 pub record Room (masks out : List ℕ) (at : ℕ) (e : List ℕ) : Type 0 where

@@ -16,10 +16,10 @@ ghost use Prim.Native.Nat.{_+_, _-_, _*_, _≤_, _<_};
 ghost use lib.ListN.{length};
 ghost use lib.Seq.{slice};
 ghost use Rattle.base.specs.Bytes.{be};
-ghost use Rattle.graph.specs.Limits.{lists, maxAcceptors, maxLearners, maxMasks};
-ghost use Rattle.graphfile.specs.File.{last, maskAnswer, readCount, readMasks, readList, readLists, readRows, readGraph};
-ghost use Rattle.graph.specs.Held.{pairList, Sized};
-ghost use Rattle.graphfile.specs.Held.{holdAll, holdRows, fieldOf, MasksHeld, HeldAfter, heldIn};
+ghost use Rattle.graph.specs.Limits.{lists, maxAcceptors, maxMasks, maskBytes};
+ghost use Rattle.graphfile.specs.File.{listsAt, last, maskAnswer, readCount, readMasks, readList, readLists, readRows, readGraph};
+ghost use Rattle.graph.specs.Memory.{pairList};
+ghost use Rattle.graphfile.specs.Arrays.{holdAll, holdRows, fieldOf, MasksHeld, HeldAfter, heldIn, InMemory, ReadFrom};
 
 // What a field holds, or the place behind it; or why the file is turned down there.
 pub enum Field {
@@ -46,8 +46,8 @@ pub fn read_count(s: &[u8], at: usize, low: usize, high: usize) -> Field
 
 // A mask of the file.
 fn read_mask(s: &[u8], at: usize) -> Mask
-    requires { ⌜ at + 2 ≤ length (now s) ⌝ }
-    ensures { λ r. ⌜ r ≡ be 2 (now (s .entry)) at ⌝ }
+    requires { ⌜ at + maskBytes ≤ length (now s) ⌝ }
+    ensures { λ r. ⌜ r ≡ be maskBytes (now (s .entry)) at ⌝ }
 {
     read16(s, at) as Mask
 }
@@ -89,7 +89,7 @@ fn read_masks(
     first: usize,
     masks: &mut [Mask],
 ) -> Field
-    requires { ⌜ (length (now s) ≤ 65537) × ((at ≤ length (now s)) × ((acceptors ≤ maxAcceptors) × ((count ≤ maxMasks) × (first + maxMasks ≤ length (now masks))))) ⌝ }
+    requires { ⌜ ReadFrom (now s) at acceptors × ((count ≤ maxMasks) × (first + maxMasks ≤ length (now masks))) ⌝ }
     ensures { λ r. ⌜ MasksHeld (readMasks (now (s .entry)) acceptors count [] at) r first (now (masks .entry)) (now (masks .exit)) ⌝ }
 {
     let mut here = at;
@@ -113,7 +113,7 @@ fn read_masks(
 
 // A list, put in as list k.
 fn read_list(s: &[u8], at: usize, acceptors: u8, low: usize, k: usize, masks: &mut [Mask]) -> Field
-    requires { ⌜ (length (now s) ≤ 65537) × ((at ≤ length (now s)) × ((acceptors ≤ maxAcceptors) × ((k < lists) × (length (now masks) ≡ maxMasks * lists)))) ⌝ }
+    requires { ⌜ ReadFrom (now s) at acceptors × ((k < lists) × (length (now masks) ≡ maxMasks * lists)) ⌝ }
     ensures { λ r. ⌜ MasksHeld (readList (now (s .entry)) acceptors low at) r (maxMasks * k) (now (masks .entry)) (now (masks .exit)) ⌝ }
 {
     match read_count(s, at, low, MAX_MASKS) {
@@ -131,7 +131,7 @@ fn read_quorums(
     counts: &mut [u8],
     masks: &mut [Mask],
 ) -> Field
-    requires { ⌜ (length (now s) ≤ 65537) × ((at ≤ length (now s)) × ((acceptors ≤ maxAcceptors) × ((learners ≤ maxLearners) × Sized (now counts) (now masks)))) ⌝ }
+    requires { ⌜ ReadFrom (now s) at acceptors × InMemory (now counts) (now masks) learners ⌝ }
     ensures { λ r. ⌜ HeldAfter (readLists (now (s .entry)) acceptors 1 learners [] at) (λ ls. holdAll (λ a. a) 0 ls (record { counts = now (counts .entry); masks = now (masks .entry) })) r (record { counts = now (counts .exit); masks = now (masks .exit) }) ⌝ }
 {
     let mut here = at;
@@ -158,7 +158,7 @@ fn read_row(
     counts: &mut [u8],
     masks: &mut [Mask],
 ) -> Field
-    requires { ⌜ (length (now s) ≤ 65537) × ((at ≤ length (now s)) × ((acceptors ≤ maxAcceptors) × ((learners ≤ maxLearners) × ((a ≤ learners) × Sized (now counts) (now masks))))) ⌝ }
+    requires { ⌜ (a ≤ learners) × (ReadFrom (now s) at acceptors × InMemory (now counts) (now masks) learners) ⌝ }
     ensures { λ r. ⌜ HeldAfter (readLists (now (s .entry)) acceptors 0 (learners - a) [] at) (λ ls. holdAll (pairList a) a ls (record { counts = now (counts .entry); masks = now (masks .entry) })) r (record { counts = now (counts .exit); masks = now (masks .exit) }) ⌝ }
 {
     let mut here = at;
@@ -185,7 +185,7 @@ fn read_rows(
     counts: &mut [u8],
     masks: &mut [Mask],
 ) -> Field
-    requires { ⌜ (length (now s) ≤ 65537) × ((at ≤ length (now s)) × ((acceptors ≤ maxAcceptors) × ((learners ≤ maxLearners) × Sized (now counts) (now masks)))) ⌝ }
+    requires { ⌜ ReadFrom (now s) at acceptors × InMemory (now counts) (now masks) learners ⌝ }
     ensures { λ r. ⌜ HeldAfter (readRows (now (s .entry)) acceptors learners [] at) (λ rows. holdRows 0 rows (record { counts = now (counts .entry); masks = now (masks .entry) })) r (record { counts = now (counts .exit); masks = now (masks .exit) }) ⌝ }
 {
     let mut here = at;
@@ -210,8 +210,8 @@ pub fn read_lists(
     counts: &mut [u8],
     masks: &mut [Mask],
 ) -> Field
-    requires { ⌜ (length (now s) ≤ 65537) × ((5 ≤ length (now s)) × ((acceptors ≤ maxAcceptors) × ((learners ≤ maxLearners) × Sized (now counts) (now masks)))) ⌝ }
-    ensures { λ r. ⌜ HeldAfter (readGraph (now (s .entry)) acceptors learners 5) (heldIn (record { counts = now (counts .entry); masks = now (masks .entry) })) r (record { counts = now (counts .exit); masks = now (masks .exit) }) ⌝ }
+    requires { ⌜ ReadFrom (now s) listsAt acceptors × InMemory (now counts) (now masks) learners ⌝ }
+    ensures { λ r. ⌜ HeldAfter (readGraph (now (s .entry)) acceptors learners listsAt) (heldIn (record { counts = now (counts .entry); masks = now (masks .entry) })) r (record { counts = now (counts .exit); masks = now (masks .exit) }) ⌝ }
 {
     let at = match read_quorums(s, LISTS_AT, acceptors, learners, counts, masks) {
         Field::Is(at) => at,

@@ -23,12 +23,11 @@ mod writer;
 
 ghost use mathlib.Core.Path.{_≡_};
 ghost use Prim.Native.Nat.{_≤_};
-ghost use lib.ListN.{length};
-ghost use Rattle.graph.specs.Limits.{maxAcceptors, maxLearners};
+ghost use Rattle.graph.specs.Limits.{maxLearners};
 ghost use Rattle.graph.specs.Answers.{graphAnswer};
-ghost use Rattle.graph.specs.Held.{viewOf};
-ghost use Rattle.graphfile.specs.File.{contents, answerOf, readGraph};
-ghost use Rattle.graphfile.specs.Held.{refusedReading, heldReading, answeredReading, readingOf, HeadOf};
+ghost use Rattle.graph.specs.Memory.{viewOf};
+ghost use Rattle.graphfile.specs.File.{listsAt, contents, answerOf, readGraph};
+ghost use Rattle.graphfile.specs.Arrays.{refusedReading, heldReading, answeredReading, readingOf, HeadOf, ReadFrom};
 ghost use Rattle.graphfile.specs.Writer.{writeAnswer, writeTo};
 
 pub const VERSION: u8 = 1;
@@ -103,8 +102,8 @@ fn head(file: &[u8]) -> Answer
 
 // The lists, put into memory.
 fn held(file: &[u8], acceptors: u8, learners: u8) -> Reading
-    requires { ⌜ (length (now file) ≤ 65537) × ((5 ≤ length (now file)) × ((acceptors ≤ maxAcceptors) × (learners ≤ maxLearners))) ⌝ }
-    ensures { λ x. ⌜ x ≡ heldReading (readGraph (now (file .entry)) acceptors learners 5) ⌝ }
+    requires { ⌜ ReadFrom (now file) listsAt acceptors × (learners ≤ maxLearners) ⌝ }
+    ensures { λ x. ⌜ x ≡ heldReading (readGraph (now (file .entry)) acceptors learners listsAt) ⌝ }
 {
     let l = size(learners);
     let mut counts = [0u8; LISTS];

@@ -19,8 +19,9 @@ ghost use lib.ListN.{length};
 ghost use lib.Seq.{slice};
 ghost use Rattle.base.specs.Tests.{all};
 ghost use Rattle.graph.specs.Limits.{lists};
-ghost use Rattle.graph.specs.Held.{heldGraph, listOf, Sized};
-ghost use Rattle.graphfile.specs.Writer.{masksBytes, listBytes, listsBytes, rowsBytes, fileBytes, contentsOf, fewMasks, fitsMask, InMemory, Room, PutIn, quorumsOf, rowOf, rowsOf};
+ghost use Rattle.graph.specs.Memory.{heldGraph, listOf, GraphSized};
+ghost use Rattle.graphfile.specs.Arrays.{InMemory};
+ghost use Rattle.graphfile.specs.Writer.{masksBytes, listBytes, listsBytes, rowsBytes, fileBytes, contentsOf, fewMasks, fitsMask, Room, PutIn, quorumsOf, rowOf, rowsOf};
 
 // The masks of a file are below it.
 const MASK_END: Mask = 65536;
@@ -70,7 +71,7 @@ fn put_masks(masks: &[Mask], from: usize, to: usize, out: &mut [u8], at: usize) 
 
 // List k: its count and its masks.
 fn put_list<'a>(counts: &'a [u8], masks: &'a [Mask], k: usize, out: &mut [u8], at: usize) -> usize
-    requires { ⌜ (k < lists) × (Sized (now counts) (now masks) × Room (now masks) (now out) at (listBytes (listOf (now counts) (now masks) k))) ⌝ }
+    requires { ⌜ (k < lists) × (GraphSized (now counts) (now masks) × Room (now masks) (now out) at (listBytes (listOf (now counts) (now masks) k))) ⌝ }
     ensures { λ r. ⌜ PutIn (listBytes (listOf (now (counts .entry)) (now (masks .entry)) k)) at r (now (out .entry)) (now (out .exit)) ⌝ }
 {
     let count = count_of(counts, k);

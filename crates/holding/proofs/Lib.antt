@@ -1,2 +1,2 @@
--- What a reply refers to, and its bytes
-pub mod Sender
+-- Laws of the reply
+pub mod Replying

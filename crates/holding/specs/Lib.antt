@@ -1,4 +1,4 @@
--- The reply over what a round lends
-pub mod Sender
--- A row of the columns, put behind the others
-pub mod Row
+-- What is asked where a message is put behind the others
+pub mod Storing
+-- A reply as code carries it
+pub mod Replying

@@ -22,7 +22,7 @@ use Rattle.protocol.specs.Table.{Held, offers, says}
 use Rattle.round.specs.Round.{Round}
 use Rattle.round.specs.declared.Outcome.the-variants as outcome
 use Rattle.round.specs.Limits.{replyLen}
-use Rattle.round.specs.Held.{votes, placeOf}
+use Rattle.round.specs.Holdings.{isVoting, placeOf}
 use Rattle.round.specs.Handed.{fits}
 use Rattle.round.specs.Rows.{referenceIds, previousId, voteRecord, messageOf, proposalRows, acceptorRows, firstOf}
 use Rattle.round.specs.Reply.{replyBytes, replyRecord, isSent}
@@ -59,7 +59,7 @@ processed-ballots : (r : Round) (p : ℕ) → Ballots r → Ballots (processed s
 unfolding processed
 processed-ballots r p h =
     let z = replyBytes r p in
-    pick-ballots (votes r) (answered sha256 r p z) (record { outcome = outcome.Accepted; round = r; reply = [] })
+    pick-ballots (isVoting r) (answered sha256 r p z) (record { outcome = outcome.Accepted; round = r; reply = [] })
     (pick-ballots (isSent r (messageOf r (replyRecord r (sha256 z) p))) (sent sha256 r p z) (joins sha256 r p) (hold-ballots r (replyRecord r (sha256 z) p) 0 tt h) h) h
 
 entered-ballots : (r : Round) (h : Held) (o : Option ℕ) → Small h → Ballots r → Ballots (entered sha256 r h o .round)

@@ -15,9 +15,9 @@ use Rattle.graph.specs.declared.Answer.the-variants.{Accepted, Refused}
 use Rattle.graph.specs.declared.Graph.{Graph}
 use Rattle.graph.specs.Limits.{maxMasks}
 use Rattle.graph.specs.Answers.{graphAnswer}
-use Rattle.graphfile.specs.File.{Got, got, no, maskAnswer, readCount, readMasks, readList, readLists, readRows, readGraph, Contents, contents, graphOf}
-use Rattle.graph.specs.Held.{pairList, Sized}
-use Rattle.graphfile.specs.Held.{Held, hold, holdAll, holdRows, heldOf, nothing, graphReading, contentsReading, readingOf}
+use Rattle.graphfile.specs.File.{Got, got, no, maskAnswer, readCount, readMasks, readList, readLists, readRows, readGraph, Contents, contents, graphSaid}
+use Rattle.graph.specs.Memory.{pairList, GraphSized}
+use Rattle.graphfile.specs.Arrays.{ListArrays, hold, holdAll, holdRows, heldOf, nothing, graphReading, contentsReading, readingOf}
 use Rattle.graphfile.proofs.Reader.{GraphGot, pick-got, check-got, then-got, graph-got}
 use Rattle.graphfile.proofs.View.{Fits, all-fits, rows-fits}
 use Rattle.graphfile.proofs.Accepted.{file-got}
@@ -91,19 +91,19 @@ module _ (s : List ℕ) (o : Octets s) (n : ℕ) where
       whole false qs rs m′ x y w = let z : _≡_ {A = ℕ} 0 1 = cc in absurd (omega arith)
 
 -- ---- what is held
-lists-held : (f : ℕ → ℕ) (i : ℕ) (ls : List (List ℕ)) (h : Held) → Lists ls → Masks (h .masks) → Masks (holdAll f i ls h .masks)
+lists-held : (f : ℕ → ℕ) (i : ℕ) (ls : List (List ℕ)) (h : ListArrays) → Lists ls → Masks (h .masks) → Masks (holdAll f i ls h .masks)
 unfolding holdAll
 lists-held f i [] h a m = m
 lists-held f i (l ∷ ls) h a m =
     lists-held f (suc i) ls (hold (f i) l h) (λ x k. a x (List·Memᴰ·tail k)) (bounds.below-put (256 ^ 4) (omega arith) (h .masks) l (maxMasks * f i) m (a l (List·Memᴰ·head refl)))
 
-rows-held : (i : ℕ) (rs : List (List (List ℕ))) (h : Held) → Rows rs → Masks (h .masks) → Masks (holdRows i rs h .masks)
+rows-held : (i : ℕ) (rs : List (List (List ℕ))) (h : ListArrays) → Rows rs → Masks (h .masks) → Masks (holdRows i rs h .masks)
 unfolding holdRows
 rows-held i [] h a m = m
 rows-held i (r ∷ rs) h a m = rows-held (suc i) rs (holdAll (pairList i) i r h) (λ x k. a x (List·Memᴰ·tail k)) (lists-held (pairList i) i r h (a r (List·Memᴰ·head refl)) m)
 
-Whole : Graph → Type 0
-Whole g = Sized (g .counts) (g .masks) × Masks (g .masks)
+Readable : Graph → Type 0
+Readable g = GraphSized (g .counts) (g .masks) × Masks (g .masks)
 
 file-held : (s : List ℕ) → Octets s → (f : Contents) (end : ℕ) → contents s ≡ got f end → Fits (heldOf f) × Masks (heldOf f .masks)
 unfolding heldOf
@@ -119,23 +119,23 @@ file-held s o f end e =
       rows-held 0 (f .rows) Q rs (lists-held (λ a. a) 0 (f .quorums) nothing qs (bounds.below-zeros (256 ^ 4) (omega arith) 352)),
     )
 
-accepted-whole : (s : List ℕ) → Octets s → readingOf s .answer ≡ Accepted → Whole (readingOf s .graph)
-unfolding Whole
+accepted-whole : (s : List ℕ) → Octets s → readingOf s .answer ≡ Accepted → Readable (readingOf s .graph)
+unfolding Readable
 accepted-whole s o = by (contents s) refl
   where
     held : (f : Contents) (a : Answer) → Fits (heldOf f) × Masks (heldOf f .masks) → graphReading f a .answer ≡ Accepted
-        → Sized (graphReading f a .graph .counts) (graphReading f a .graph .masks) × Masks (graphReading f a .graph .masks)
+        → GraphSized (graphReading f a .graph .counts) (graphReading f a .graph .masks) × Masks (graphReading f a .graph .masks)
     held f Accepted w e = w
     held f (Refused r) w e = let z : _≡_ {A = ℕ} 0 1 = cc in absurd (omega arith)
 
     by : (g : Got Contents) → contents s ≡ g → contentsReading g .answer ≡ Accepted
-        → Sized (contentsReading g .graph .counts) (contentsReading g .graph .masks) × Masks (contentsReading g .graph .masks)
-    by (got f m) e k = held f (graphAnswer (graphOf f)) (file-held s o f m e) k
+        → GraphSized (contentsReading g .graph .counts) (contentsReading g .graph .masks) × Masks (contentsReading g .graph .masks)
+    by (got f m) e k = held f (graphAnswer (graphSaid f)) (file-held s o f m e) k
     by (no r) e k = let z : _≡_ {A = ℕ} 0 1 = cc in absurd (omega arith)
 
 -- ---- the round
 pub opened-laid : (file : List ℕ) (house bay own : ℕ) (r : Round) → Octets file → Starts file house bay own r → layout.Laid r
-unfolding Whole
+unfolding Readable
 opened-laid file house bay own r o s =
     let O = opens file house bay own r s in
     let (size, masks) = accepted-whole file o (O .accepted) in

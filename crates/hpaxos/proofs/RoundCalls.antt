@@ -24,7 +24,7 @@ use Rattle.round.specs.declared.Outcome.the-variants as outcome
 use Rattle.round.specs.declared.Report.{Report}
 use Rattle.round.specs.declared.Report.the-variants as answer
 use Rattle.round.specs.Limits.{maxHeld}
-use Rattle.round.specs.Held as held
+use Rattle.round.specs.Holdings as held
 use Rattle.round.specs.Handed.{fits}
 use Rattle.round.specs.Opening.{opened}
 use Rattle.round.specs.Delivery.{delivered, replied}

@@ -33,7 +33,7 @@ const NO_REPLY: u32 = 0;
 const REPLY: u32 = 256;
 
 // The acceptor number of a round that listens only. A larger one is in no graph, and neither is 255.
-const LISTENING: u32 = 256;
+const LISTENING: u32 = round::LISTENING as u32;
 
 const IN_NO_GRAPH: u16 = 255;
 

@@ -1,69 +1,85 @@
 -- An acceptor message that was read: what its rows ask, and what is known of it when rows 11 and 12 do not apply.
-use mathlib.Core.Path.{_≡_, refl, ap, ap₂, sym, subst, _∙_}
-use mathlib.Core.Bool.{Bool, true, false, not}
+use Prim.Native.Nat.{_≤_, ℕ}
 use mathlib.Core.Option.{Option, none, some}
 use mathlib.Core.List.{List}
-use Prim.Native.Nat.{ℕ, _+_, _*_, _≤_}
-use native.Mathlib.Omega.{arith}
+use mathlib.Core.Path.{_≡_, subst, sym, ap, _∙_}
 use lib.Dec.{T}
-use borrow.Author.Tests.{not-false}
+use mathlib.Core.Bool.{Bool, not, true, false}
 use lib.ListN.{length}
-use Rattle.base.specs.Tests.{_∈_, all}
-use Rattle.base.specs.declared.refusal.Refusal.{Refusal}
-use Rattle.message.specs.Layout.{referencesAt}
-use Rattle.message.specs.Reader.{reading}
-use Rattle.message.specs.declared.AcceptorMessage.{AcceptorMessage}
-use Rattle.message.specs.declared.Reading.the-variants.{OfAcceptor}
-use Rattle.message.proofs.Checks.{of-acceptor}
-use Rattle.protocol.specs.Ids.{Id}
-use Rattle.protocol.specs.Message.{Message}
-use Rattle.protocol.specs.Table.{Held, says}
-use Rattle.protocol.specs.WellFormed.{formed1b, formed2a}
-use Rattle.notes.specs.declared.Note.{Note}
-use Rattle.notes.specs.Notes.{Judged}
+use native.Mathlib.Omega.{arith}
 use Rattle.round.specs.Round.{Round}
-use Rattle.round.specs.Held.{graphOf}
-use Rattle.round.specs.Rows.{idsFrom, otherRound, foreign, isKnownId, referenceIds, previousId, lacks, unchained, voteRecord, messageOf, full, acceptorRows, firstOf}
-use Rattle.round.proofs.Fitting.{Fitting}
-use Rattle.round.proofs.Written.{counted}
-use Rattle.round.proofs.Arriving.{chain-placed}
-use Rattle.round.proofs.Marking.{previous-fits, previous-named}
-use Rattle.order.specs.declared.rows.Row.{Row}
-use Rattle.order.specs.declared.rows.Row.the-variants.{Clear, Applies}
-use Rattle.admission.specs.Lent.{isKnownIn, placesIn, unchainedIn}
+use Rattle.round.specs.Limits.{maxHeld}
+use Rattle.protocol.specs.Ids.{Id}
+use Rattle.admission.specs.declared.rows.Vote.{Vote}
+use Rattle.admission.specs.Votes.{Resolves, recordOf}
+use Rattle.order.specs.Rows.{chainRow, formRow, headRow, rowOf}
+use Rattle.round.specs.Rows.{lacks, unchained, isKnownId, voteRecord, full, otherRound, foreign, referenceIds, previousId, messageOf, firstOf, acceptorRows}
+use Rattle.base.specs.Tests.{all, _∈_}
+use Rattle.round.proofs.Arriving.{all-known, chain-placed, referred}
+use Rattle.judging.proofs.Ordered.{chain-none, orElse, acceptor-row, row-applies, row-clear}
+use Rattle.round.proofs.Marking.{PlacedId, previous-named, previous-fits}
+use Rattle.round.specs.Holdings.{named, graphOf}
+use Rattle.protocol.specs.Table.{says, Held}
 use Rattle.judging.specs.Referring.{Referring}
-use Rattle.order.specs.Rows.{rowOf, headRow, chainRow, formRow}
+use Rattle.round.proofs.Named.{place-some}
+use Rattle.round.specs.Handed.{placeFits}
+use Rattle.round.specs.Delivery.{previousPlace}
+use Rattle.message.specs.declared.AcceptorMessage.{AcceptorMessage}
+use Rattle.message.specs.Reader.{reading}
+use Rattle.message.specs.declared.Reading.the-variants.{OfAcceptor}
+use Rattle.admission.specs.Finding.{Listed, Bounded}
+use Rattle.message.proofs.Checks.{of-acceptor}
+use Rattle.round.proofs.Written.{counted}
+use Rattle.judging.specs.Standing.{Passes}
+use Rattle.round.proofs.Fitting.{fits-out}
+use Rattle.roundbytes.specs.Layout.{roundIn}
+use Rattle.protocol.specs.Message.{Message}
 use Rattle.judging.specs.Turning.{soundRow}
-use Rattle.admission.proofs.Lent.{lacks-lent, places-lent, unchained-lent, places-held}
-use Rattle.judging.proofs.Ordered.{orElse, acceptor-row, row-applies, row-clear, chain-none}
+use Rattle.protocol.specs.WellFormed.{formed1b, formed2a}
+use Rattle.meaning.specs.declared.Note.{Note}
+use Rattle.meaning.specs.Notes.{Judged}
+use Rattle.base.specs.declared.refusal.Refusal.{Refusal}
+use Rattle.order.specs.declared.rows.Row.{Row}
+use Rattle.order.specs.declared.rows.Row.the-variants.{Applies, Clear}
 
-module _ (b : List ℕ) (m : AcceptorMessage) (reads : reading b ≡ OfAcceptor m) where
-  -- its references stand in its bytes, and so would a previous id
-  pub references-within : (m .count ≤ 128) × (referencesAt (m .previous) + 32 * m .count ≤ length b)
-  references-within = let long = of-acceptor b m reads .0 .long in (counted b m reads .1, omega arith)
+-- ---- what a message looks up, where rows 11 and 12 do not apply
+module _ (r : Round) (most : r .held ≤ maxHeld) (signer : ℕ) (previous : Option Id) (ids : List Id) (v : Vote) (found : Resolves r signer previous ids v) (clear : chainRow (lacks r ids) (unchained r signer ids previous) ≡ none) where
+  known : T (all (isKnownId r) ids)
+  known = all-known r ids (subst (λ (t : Bool). T (not t)) (sym (chain-none (lacks r ids) (unchained r signer ids previous) clear .0)) tt)
 
-  pub previous-within : 42 ≤ length b
-  previous-within = let long = of-acceptor b m reads .0 .long in let some = counted b m reads .0 in omega arith
+  chained : PlacedId r previous
+  chained = chain-placed r signer ids previous (subst (λ (t : Bool). T (not t)) (sym (chain-none (lacks r ids) (unchained r signer ids previous) clear .1)) tt)
 
-  -- rows 11 and 12 do not apply: it refers to held messages, and its previous id is none or held
-  pub referring : (r : Round) → Fitting r → (l : List ℕ) → length l ≡ m .count → l ≡ placesIn (r .ids) (r .held) (referenceIds b m)
-      → chainRow (lacks r (referenceIds b m)) (unchained r (m .signer) (referenceIds b m) (previousId b m)) ≡ none → Referring r (previousId b m) l
-  referring r f l n e clear =
-      let c = counted b m reads in
-      let neither = chain-none (lacks r (referenceIds b m)) (unchained r (m .signer) (referenceIds b m) (previousId b m)) clear in
-      let known : all (isKnownIn (r .ids) (r .held) (r .known)) (referenceIds b m) ≡ true = not-false _ (sym (lacks-lent r (referenceIds b m)) ∙ neither .0) in
-      let p = chain-placed r (m .signer) (referenceIds b m) (previousId b m) (subst (λ (t : Bool). T (not t)) (sym (neither .1)) tt) in
+  back : named r (v .previous) ≡ previous
+  back = ap (named r) (found .back) ∙ previous-named r most previous chained
+
+  -- it is the record of the message
+  pub voted : (i : Id) → recordOf r i v ≡ voteRecord r i signer previous ids
+  voted i = λ k. says i (found .signed k) (back k) (found .listed k)
+
+  -- it refers to held messages, and its previous message is none or held
+  pub referring : 1 ≤ v .count → v .count ≤ maxHeld → length (v .places) ≡ maxHeld → Referring r v
+  referring least few whole =
       record {
-        least = omega arith;
-        most = omega arith;
-        earlier = λ j k. places-held (r .ids) (r .held) (r .known) (referenceIds b m) (subst T (sym known) tt) j (subst (λ (y : List ℕ). j ∈ y) e k);
-        placed = previous-fits r (previousId b m) p;
-        named′ = previous-named r (f .most) (previousId b m) p;
+        least = least;
+        most = few;
+        whole = whole;
+        earlier = λ j k. let (i, q, t) = referred r ids known j (subst (λ (l : List ℕ). j ∈ l) (found .listed) k) in place-some r i j q .inside;
+        placed = subst (λ (p : ℕ). T (placeFits r p)) (sym (found .back)) (previous-fits r previous chained);
+        lowest = found .back ∙ ap (previousPlace r) (sym back);
       }
 
--- at most as many as there are places
-pub fewer : (k n : ℕ) (l : List ℕ) → k ≤ n → length l ≡ n → k ≤ length l
-fewer k n l h e = omega arith
+-- ---- an acceptor message that was read: its references stand in its bytes
+module _ (b : List ℕ) (m : AcceptorMessage) (reads : reading b ≡ OfAcceptor m) where
+  pub listed : Listed b m
+  listed = let long = of-acceptor b m reads .0 .long in record { most = counted b m reads .1; within = omega arith }
+
+  pub refers : 1 ≤ m .count
+  refers = counted b m reads .0
+
+-- a round that passes row 17 stands whole in its bytes
+pub stands : (s : List ℕ) → Passes s → Bounded s
+stands s p = record { long = p .long; most = fits-out (roundIn s) (p .fit) .most }
 
 -- where none of rows 14 to 16 applies, there is room
 pub form-free : (a b l : Bool) → formRow a b l ≡ none → T (not l)
@@ -80,20 +96,6 @@ pub form-judged : (r : Round) (i : Id) (tree : Message) (x : Note) (l : Bool) �
     → formRow (x .formed1b) (x .formed2a) l ≡ soundRow r i tree
 form-judged r i tree x l j e = λ k. formRow (j .formed1 k) (j .formed2 k) (e k)
 
--- ---- rows 11 and 12 as they are worked out: n messages are held, and the references stand from `at` on
-module _ (r : Round) (b : List ℕ) (m : AcceptorMessage) (n at : ℕ) (same : n ≡ r .held) (first : at ≡ referencesAt (m .previous)) where
-  pub lacks-worked : (k : Bool) → k ≡ all (isKnownIn (r .ids) n (r .known)) (idsFrom (m .count) b at) → not k ≡ lacks r (referenceIds b m)
-  lacks-worked k e = ap not (e ∙ ap₂ (λ (h p : ℕ). all (isKnownIn (r .ids) h (r .known)) (idsFrom (m .count) b p)) same first) ∙ sym (lacks-lent r (referenceIds b m))
-
-  pub places-worked : placesIn (r .ids) n (idsFrom (m .count) b at) ≡ placesIn (r .ids) (r .held) (referenceIds b m)
-  places-worked = ap₂ (λ (h p : ℕ). placesIn (r .ids) h (idsFrom (m .count) b p)) same first
-
-  pub unchained-worked : (u : Bool) → u ≡ unchainedIn (r .ids) n (r .kinds) (r .signers) (m .signer) (referenceIds b m) (previousId b m)
-      → u ≡ unchained r (m .signer) (referenceIds b m) (previousId b m)
-  unchained-worked u e =
-      e ∙ ap (λ (h : ℕ). unchainedIn (r .ids) h (r .kinds) (r .signers) (m .signer) (referenceIds b m) (previousId b m)) same
-      ∙ sym (unchained-lent r (m .signer) (referenceIds b m) (previousId b m))
-
 -- ---- an acceptor message with the id i, read from the bytes b: its rows in three parts, and what follows where each of them is clear
 module _ (r : Round) (i : Id) (b : List ℕ) (m : AcceptorMessage) where
   abbrev pub heads : Option Refusal
@@ -102,34 +104,28 @@ module _ (r : Round) (i : Id) (b : List ℕ) (m : AcceptorMessage) where
   abbrev pub chains : Option Refusal
   chains = chainRow (lacks r (referenceIds b m)) (unchained r (m .signer) (referenceIds b m) (previousId b m))
 
-  -- it refers to these places
-  abbrev pub recordTo : List ℕ → Held
-  recordTo l = says i (m .signer) (previousId b m) l
+  abbrev pub recordRead : Held
+  recordRead = voteRecord r i (m .signer) (previousId b m) (referenceIds b m)
 
-  abbrev pub sounds : List ℕ → Option Refusal
-  sounds l = soundRow r i (messageOf r (recordTo l))
-
-  abbrev pub placesTo : List ℕ
-  placesTo = placesIn (r .ids) (r .held) (referenceIds b m)
+  abbrev pub sounds : Option Refusal
+  sounds = soundRow r i (messageOf r recordRead)
 
   abbrev pub rows : Option Refusal
-  rows = firstOf (acceptorRows r i m (previousId b m) (referenceIds b m) (messageOf r (voteRecord r i (m .signer) (previousId b m) (referenceIds b m))))
+  rows = firstOf (acceptorRows r i m (previousId b m) (referenceIds b m) (messageOf r recordRead))
 
-  three : (l : List ℕ) → l ≡ placesTo → rows ≡ orElse heads (orElse chains (sounds l))
-  three l e =
-      acceptor-row r i m (previousId b m) (referenceIds b m) (messageOf r (voteRecord r i (m .signer) (previousId b m) (referenceIds b m)))
-      ∙ ap (λ (y : List ℕ). orElse heads (orElse chains (sounds y))) (places-lent r (referenceIds b m) ∙ sym e)
+  three : rows ≡ orElse heads (orElse chains sounds)
+  three = acceptor-row r i m (previousId b m) (referenceIds b m) (messageOf r recordRead)
 
   module _ (y : Row) (told : y ≡ rowOf heads) where
     pub by-head : (e : Refusal) → y ≡ Applies e → rows ≡ some e
-    by-head e t = three placesTo refl ∙ ap (λ (o : Option Refusal). orElse o (orElse chains (sounds placesTo))) (row-applies heads e (sym told ∙ t))
+    by-head e t = three ∙ ap (λ (o : Option Refusal). orElse o (orElse chains sounds)) (row-applies heads e (sym told ∙ t))
 
     module _ (clear : y ≡ Clear) (z : Row) (also : z ≡ rowOf chains) where
-      past : (l : List ℕ) → l ≡ placesTo → rows ≡ orElse chains (sounds l)
-      past l q = three l q ∙ ap (λ (o : Option Refusal). orElse o (orElse chains (sounds l))) (row-clear heads (sym told ∙ clear))
+      past : rows ≡ orElse chains sounds
+      past = three ∙ ap (λ (o : Option Refusal). orElse o (orElse chains sounds)) (row-clear heads (sym told ∙ clear))
 
       pub by-chain : (e : Refusal) → z ≡ Applies e → rows ≡ some e
-      by-chain e t = past placesTo refl ∙ ap (λ (o : Option Refusal). orElse o (sounds placesTo)) (row-applies chains e (sym also ∙ t))
+      by-chain e t = past ∙ ap (λ (o : Option Refusal). orElse o sounds) (row-applies chains e (sym also ∙ t))
 
-      pub by-rest : z ≡ Clear → (l : List ℕ) → l ≡ placesTo → rows ≡ sounds l
-      by-rest t l q = past l q ∙ ap (λ (o : Option Refusal). orElse o (sounds l)) (row-clear chains (sym also ∙ t))
+      pub by-rest : z ≡ Clear → rows ≡ sounds
+      by-rest t = past ∙ ap (λ (o : Option Refusal). orElse o sounds) (row-clear chains (sym also ∙ t))

@@ -1,8 +1,6 @@
--- The notes of a round's messages
-pub mod Working
+-- What is asked of the bytes that a round stands in
+pub mod Standing
 -- What an acceptor message refers to
 pub mod Referring
 -- Rows 8 to 16 as they are asked
 pub mod Turning
--- A verdict as a report answers it
-pub mod Telling

@@ -6,7 +6,7 @@ use Rattle.protocol.specs.Ids.{Id}
 use Rattle.protocol.specs.Message.{Message}
 use Rattle.protocol.specs.WellFormed.{formed1b, formed2a}
 use Rattle.round.specs.Round.{Round}
-use Rattle.round.specs.Held.{graphOf}
+use Rattle.round.specs.Holdings.{graphOf}
 use Rattle.round.specs.Rows.{full}
 
 -- the message with id i, which is m over what the round holds

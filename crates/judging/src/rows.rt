@@ -1,41 +1,37 @@
-// Rows 8 to 16 of the table "When a call is turned down", for a message that was read. The round stands in the bytes s.
-use crate::judge::judge;
-use admission::lookup::previous_place;
+// Rows 8 to 16 of the table "When a call is turned down", for a message that was read. The round stands in the bytes s. What was found for the
+// message's ids is handed in, so that no id is looked up twice.
+use admission::lookup::Found;
+use admission::rows::Vote;
 use admission::rows::is_awaited;
 use admission::rows::is_known;
-use admission::rows::is_unchained;
+use admission::rows::previous_of;
 use admission::rows::resolve;
-use base::size;
+use derive::new::judge;
 use graph::Mask;
+use meaning::Note;
 use message::AcceptorMessage;
-use message::layout::references_at;
 use order::is_foreign;
 use order::is_full;
 use order::is_other;
 use order::rows::Row;
-use roundbytes::BALLOTS_AT;
-use roundbytes::BAY_AT;
-use roundbytes::HELD_AT;
-use roundbytes::HOUSE_AT;
-use roundbytes::IDS_AT;
-use roundbytes::KINDS_AT;
-use roundbytes::KNOWN_AT;
-use roundbytes::OWN_AT;
-use roundbytes::RECENT_AT;
-use roundbytes::SIGNERS_AT;
-use roundbytes::word16;
+use roundbytes::readers::acceptors_of;
+use roundbytes::readers::bay_of;
+use roundbytes::readers::held_of;
+use roundbytes::readers::house_of;
+use roundbytes::readers::own_of;
 ghost use mathlib.Core.Path.{_≡_};
-ghost use Prim.Native.Nat.{_+_, _*_, _≤_};
-ghost use lib.Dec.{T};
-ghost use lib.ListN.{length, take};
-ghost use Rattle.message.specs.Layout.{referencesAt};
-ghost use Rattle.protocol.specs.Table.{says};
-ghost use Rattle.round.specs.Handed.{fits};
+ghost use Prim.Native.Nat.{_≤_};
+ghost use lib.ListN.{length};
+ghost use Rattle.protocol.specs.Ids.{Id};
+ghost use Rattle.meaning.specs.Notes.{Judged};
+ghost use Rattle.round.specs.Limits.{maxHeld};
+ghost use Rattle.round.specs.Holdings.{graphOf, placeOf};
 ghost use Rattle.round.specs.Rows.{otherRound, foreign, isKnownId, referenceIds, previousId, lacks, unchained, messageOf, full};
 ghost use Rattle.roundbytes.specs.Layout.{roundLen, roundIn};
-ghost use Rattle.admission.specs.Lent.{previousIn, placesIn};
+ghost use Rattle.admission.specs.Finding.{Bounded, Listed, Inside, placeFound};
+ghost use Rattle.admission.specs.Votes.{recordOf, Resolves};
+ghost use Rattle.judging.specs.Standing.{AtHand};
 ghost use Rattle.judging.specs.Referring.{Referring};
-ghost use Rattle.judging.specs.Working.{Worked};
 ghost use Rattle.order.specs.Rows.{rowOf, headRow, chainRow};
 ghost use Rattle.order.specs.declared.rows.Row.the-variants.{Clear};
 ghost use Rattle.judging.specs.Turning.{soundRow};
@@ -45,94 +41,92 @@ pub fn of_another(s: &[u8], house: u16, bay: u16) -> bool
     requires { ⌜ roundLen ≤ length (now s) ⌝ }
     ensures { λ r. ⌜ r ≡ otherRound (roundIn (now (s .entry))) house bay ⌝ }
 {
-    let own_house = word16(s, HOUSE_AT);
-    let own_bay = word16(s, BAY_AT);
+    let own_house = house_of(s);
+    let own_bay = bay_of(s);
     is_other(house, bay, own_house, own_bay)
 }
 
-// Row 10.
-pub fn knows<'a>(s: &'a [u8], id: &'a [u8]) -> bool
-    requires { ⌜ (roundLen ≤ length (now s)) × ((roundIn (now s) .held ≤ 128) × (length (now id) ≡ 32)) ⌝ }
-    ensures { λ r. ⌜ r ≡ isKnownId (roundIn (now (s .entry))) (now (id .entry)) ⌝ }
+// Rows 8 to 10 of an acceptor message, by what was found for its id.
+pub fn head_row(s: &[u8], m: AcceptorMessage, found: Found) -> Row
+    requires { ⌜ Bounded (now s) × Inside (roundIn (now s)) found ⌝ }
+    ensures { λ r. ⌜ ((i : Id) → placeFound found ≡ placeOf (roundIn (now (s .entry))) i
+        → r ≡ rowOf (headRow (otherRound (roundIn (now (s .entry))) (m .house) (m .bay)) (foreign (roundIn (now (s .entry))) (m .signer)) (isKnownId (roundIn (now (s .entry))) i))) ⌝ }
 {
-    let held = size(s[HELD_AT]);
-    is_known(&s[IDS_AT..KINDS_AT], held, &s[KNOWN_AT..RECENT_AT], id)
-}
-
-// Rows 8 to 10 of an acceptor message.
-pub fn head_row<'a>(s: &'a [u8], id: &'a [u8], house: u16, bay: u16, signer: u8) -> Row
-    requires { ⌜ (roundLen ≤ length (now s)) × ((roundIn (now s) .held ≤ 128) × (length (now id) ≡ 32)) ⌝ }
-    ensures { λ r. ⌜ r ≡ rowOf (headRow (otherRound (roundIn (now (s .entry))) house bay) (foreign (roundIn (now (s .entry))) signer) (isKnownId (roundIn (now (s .entry))) (now (id .entry)))) ⌝ }
-{
-    let other = of_another(s, house, bay);
-    let foreign = is_foreign(s[0], signer);
-    let known = knows(s, id);
+    let other = of_another(s, m.house, m.bay);
+    let foreign = is_foreign(acceptors_of(s), m.signer);
+    let known = is_known(s, found);
     order::rows::head_row(other, foreign, known)
 }
 
-// What rows 11 and 12 say; where neither applies, the places of the references.
+// What rows 11 and 12 say; where neither applies, what the message's ids name.
 pub struct Chained {
     pub row: Row,
-    pub places: [u8; 128],
+    pub vote: Vote,
 }
 
 // Rows 11 and 12 of an acceptor message that was read from these bytes.
 pub fn chain_row<'a>(s: &'a [u8], bytes: &'a [u8], m: AcceptorMessage) -> Chained
-    requires { ⌜ (roundLen ≤ length (now s)) × ((roundIn (now s) .held ≤ 128) × ((m .count ≤ 128) × (referencesAt (m .previous) + 32 * m .count ≤ length (now bytes)))) ⌝ }
+    requires { ⌜ Bounded (now s) × Listed (now bytes) m ⌝ }
     ensures ruled { λ r. ⌜ r .row ≡ rowOf (chainRow (lacks (roundIn (now (s .entry))) (referenceIds (now (bytes .entry)) m)) (unchained (roundIn (now (s .entry))) (m .signer) (referenceIds (now (bytes .entry)) m) (previousId (now (bytes .entry)) m))) ⌝ }
-    ensures placed { λ r. ⌜ (r .row ≡ Clear → take (m .count) (r .places) ≡ placesIn (roundIn (now (s .entry)) .ids) (roundIn (now (s .entry)) .held) (referenceIds (now (bytes .entry)) m)) ⌝ }
-    ensures whole { λ r. ⌜ length (r .places) ≡ 128 ⌝ }
+    ensures resolved { λ r. ⌜ (r .row ≡ Clear → Resolves (roundIn (now (s .entry))) (m .signer) (previousId (now (bytes .entry)) m) (referenceIds (now (bytes .entry)) m) (r .vote)) ⌝ }
+    ensures whole { λ r. ⌜ (r .vote .count ≡ m .count) × (length (r .vote .places) ≡ maxHeld) ⌝ }
 {
-    let held = size(s[HELD_AT]);
-    let at = references_at(m.previous);
-    let count = m.count;
-    let ids = &s[IDS_AT..KINDS_AT];
-    let found = resolve(ids, held, &s[KNOWN_AT..RECENT_AT], bytes, at, count);
-    let known = found.known;
-    let places = found.places;
-    let unchained = is_unchained(
-        ids,
-        held,
-        &s[KINDS_AT..SIGNERS_AT],
-        &s[SIGNERS_AT..BALLOTS_AT],
-        bytes,
-        m.previous,
-        count,
-        m.signer,
-    );
-    let row = order::rows::chain_row(!known, unchained);
-    Chained { row, places }
+    let references = resolve(s, bytes, m);
+    let lacking = references.lacking;
+    let places = references.places;
+    let previous = previous_of(s, bytes, m);
+    let row = order::rows::chain_row(lacking, previous.unchained);
+    Chained {
+        row,
+        vote: Vote {
+            signer: m.signer,
+            previous: previous.place,
+            count: m.count,
+            places,
+        },
+    }
 }
 
-// Row 16.
-pub fn lacks_room<'a>(s: &'a [u8], id: &'a [u8]) -> bool
-    requires { ⌜ (roundLen ≤ length (now s)) × ((roundIn (now s) .held ≤ 128) × (length (now id) ≡ 32)) ⌝ }
-    ensures { λ r. ⌜ r ≡ full (roundIn (now (s .entry))) (now (id .entry)) ⌝ }
+// Row 16, by what was found for the message's id.
+pub fn lacks_room(s: &[u8], found: Found) -> bool
+    requires { ⌜ Bounded (now s) × Inside (roundIn (now s)) found ⌝ }
+    ensures { λ r. ⌜ ((i : Id) → placeFound found ≡ placeOf (roundIn (now (s .entry))) i → r ≡ full (roundIn (now (s .entry))) i) ⌝ }
 {
-    let held = size(s[HELD_AT]);
-    let awaited = is_awaited(&s[IDS_AT..KINDS_AT], held, &s[KNOWN_AT..RECENT_AT], id);
-    is_full(s[HELD_AT], word16(s, OWN_AT), awaited)
+    let awaited = is_awaited(s, found);
+    is_full(held_of(s) as u8, own_of(s), awaited)
 }
 
-// Rows 14 to 16 of an acceptor message, whose references are the first `count` of some places, and whose previous id stands in its bytes.
+// An acceptor message that the round would hold as this vote, judged by what it holds.
+pub fn judge_vote<'a>(
+    s: &'a [u8],
+    masks: &'a [Mask],
+    words: &'a [u64],
+    octets: &'a [u8],
+    id: &'a [u8],
+    vote: Vote,
+) -> Note
+    requires { ⌜ AtHand (now s) (now masks) (now words) (now octets) × Referring (roundIn (now s)) vote ⌝ }
+    ensures { λ r. ⌜ Judged (graphOf (roundIn (now (s .entry)))) (messageOf (roundIn (now (s .entry))) (recordOf (roundIn (now (s .entry))) (now (id .entry)) vote)) r ⌝ }
+{
+    let count = vote.count;
+    let places = &vote.places[..];
+    judge(s, masks, words, octets, id, &places[0..count])
+}
+
+// Rows 14 to 16 of such a message, by what was found for its id.
 pub fn sound_row<'a>(
     s: &'a [u8],
     masks: &'a [Mask],
     words: &'a [u64],
     octets: &'a [u8],
     id: &'a [u8],
-    signer: u8,
-    bytes: &'a [u8],
-    previous: bool,
-    places: &'a [u8],
-    count: usize,
+    vote: Vote,
+    found: Found,
 ) -> Row
-    requires { ⌜ (roundLen ≤ length (now s)) × ((now masks ≡ roundIn (now s) .graph .masks) × (T (fits (roundIn (now s))) × (Worked (roundIn (now s)) (now words) (now octets) × ((length (now id) ≡ 32) × ((42 ≤ length (now bytes)) × ((count ≤ length (now places)) × Referring (roundIn (now s)) (previousIn (now bytes) previous) (take count (now places)))))))) ⌝ }
-    ensures { λ r. ⌜ r ≡ rowOf (soundRow (roundIn (now (s .entry))) (now (id .entry)) (messageOf (roundIn (now (s .entry))) (says (now (id .entry)) signer (previousIn (now (bytes .entry)) previous) (take count (now (places .entry)))))) ⌝ }
+    requires { ⌜ AtHand (now s) (now masks) (now words) (now octets) × (Referring (roundIn (now s)) vote × (placeFound found ≡ placeOf (roundIn (now s)) (now id))) ⌝ }
+    ensures { λ r. ⌜ r ≡ rowOf (soundRow (roundIn (now (s .entry))) (now (id .entry)) (messageOf (roundIn (now (s .entry))) (recordOf (roundIn (now (s .entry))) (now (id .entry)) vote))) ⌝ }
 {
-    let held = size(s[HELD_AT]);
-    let at = previous_place(&s[IDS_AT..KINDS_AT], held, bytes, previous);
-    let note = judge(s, masks, words, octets, id, &places[0..count], signer, at);
-    let lacks = lacks_room(s, id);
+    let note = judge_vote(s, masks, words, octets, id, vote);
+    let lacks = lacks_room(s, found);
     order::rows::form_row(note.formed1b, note.formed2a, lacks)
 }

@@ -1,5 +1,5 @@
 -- Document 01, "Messages": the places and lengths of a message's fields, counted in bytes. A new field or another version is a change here.
-use mathlib.Core.Bool.{Bool}
+use mathlib.Core.Bool.{Bool, true}
 use Prim.Native.Nat.{ℕ, _+_, _*_}
 use Rattle.base.specs.Tests.{pick}
 
@@ -72,4 +72,4 @@ acceptorLen previous n = referencesAt previous + idLen * n
 
 -- at most 4,139.
 abbrev pub mostBytes : ℕ
-mostBytes = 4139
+mostBytes = acceptorLen true mostReferences

@@ -1,8 +1,9 @@
 -- What any list of bytes says: a proposal, an acceptor message, or why it is turned down.
 -- The checks run in document 01's order: outer length 1; version 2; kind, marker and count 3; inner length 1; ids 4. Bytes that end before a field give 1 ahead of that field's check.
-use mathlib.Core.Bool.{Bool}
+use mathlib.Core.Bool.{Bool, true}
+use mathlib.Core.Path.{_≡_}
 use mathlib.Core.List.{List}
-use Prim.Native.Nat.{ℕ, _+_, _*_, _-_}
+use Prim.Native.Nat.{ℕ, _+_, _*_, _-_, _≤_, _<_}
 use lib.Dec.{eqb, ltb, leb}
 use lib.ListN.{length, getD}
 use Rattle.base.specs.Tests.{pick}
@@ -41,6 +42,17 @@ readCounted s previous n =
     (unless (leb n mostReferences) Range
     (unless (eqb (length s) (acceptorLen previous n)) Length
     (unless (ascending (n - 1) s (referencesAt previous)) Order (OfAcceptor (acceptorIn s previous n)))))
+
+-- what stands before the references was read:
+pub record Counted (s : List ℕ) (previous : Bool) (from n : ℕ) : Type 0 where
+  -- the bytes do not end before the marker,
+  pub marked : markerAt < length s
+  -- the references begin at `from`,
+  pub begins : from ≡ referencesAt previous
+  -- which is no further on than behind a previous id,
+  pub near : from ≤ referencesAt true
+  -- and their count is a byte
+  pub octet : n < 256
 
 -- after a marker: the previous id if there is one, and the count
 abbrev pub readMarked : List ℕ → Bool → Reading

@@ -5,9 +5,9 @@ use base::read64;
 ghost use mathlib.Core.Path.{_≡_};
 ghost use Prim.Native.Nat.{_+_, _*_, _≤_};
 ghost use lib.ListN.{length};
-ghost use Rattle.base.specs.Bytes.{be, part};
+ghost use Rattle.base.specs.Bytes.{part};
 ghost use Rattle.message.specs.Layout.{idLen};
-ghost use Rattle.message.specs.Order.{before, ascending};
+ghost use Rattle.message.specs.Order.{before, ascending, TwoIds};
 
 const WORD_LEN: usize = 8;
 
@@ -21,7 +21,7 @@ pub fn id_before(s: &[u8], a: usize, b: usize) -> bool
 
 // The same, for ids whose first words were read: x is the one at a, and y the one at b.
 fn words_before(s: &[u8], a: usize, x: u64, b: usize, y: u64) -> bool
-    requires { ⌜ (a + idLen ≤ length (now s)) × ((b + idLen ≤ length (now s)) × ((x ≡ be 8 (now s) a) × (y ≡ be 8 (now s) b))) ⌝ }
+    requires { ⌜ TwoIds (now s) a x b y ⌝ }
     ensures { λ r. ⌜ r ≡ before (part idLen (now (s .entry)) a) (part idLen (now (s .entry)) b) ⌝ }
 {
     if x != y {

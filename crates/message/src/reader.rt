@@ -17,12 +17,11 @@ use base::read64;
 use base::refusal::Refusal;
 use base::size;
 ghost use mathlib.Core.Path.{_≡_};
-ghost use mathlib.Core.Bool.{true};
 ghost use Prim.Native.Nat.{_+_, _≤_, _<_};
 ghost use lib.ListN.{length};
 ghost use Rattle.base.specs.Bytes.{be};
-ghost use Rattle.message.specs.Layout.{markerAt, referencesAt};
-ghost use Rattle.message.specs.Reader.{readProposal, readAcceptor, readMarked, readCounted};
+ghost use Rattle.message.specs.Layout.{markerAt};
+ghost use Rattle.message.specs.Reader.{readProposal, readAcceptor, readMarked, readCounted, Counted};
 
 // A two-byte field, house or bay.
 fn field16(s: &[u8], at: usize) -> u16
@@ -74,7 +73,7 @@ fn read_marked(s: &[u8], previous: bool) -> Reading
 
 // The part behind the count.
 fn read_counted(s: &[u8], previous: bool, from: usize, n: usize) -> Reading
-    requires { ⌜ (markerAt < length (now s)) × ((from ≡ referencesAt previous) × ((from ≤ referencesAt true) × (n < 256))) ⌝ }
+    requires { ⌜ Counted (now s) previous from n ⌝ }
     ensures { λ r. ⌜ r ≡ readCounted (now (s .entry)) previous n ⌝ }
 {
     if n == 0 {

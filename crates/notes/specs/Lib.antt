@@ -1,6 +1,8 @@
--- What is noted of a held message and worked out for a new one, in the terms of the definitions
-pub mod Notes
--- The table that the arrays of a round hold
-pub mod Records
 -- The notes in two lent arrays
-pub mod Lent
+pub mod Layout
+-- The places by their keys
+pub mod Index
+-- What is written into them
+pub mod Writing
+-- What is asked of the lent arrays
+pub mod Asking

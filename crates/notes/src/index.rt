@@ -1,5 +1,8 @@
 // The index of the places: for each key a set, so that a question is asked of few places.
+use crate::KEYS;
 use crate::Walks;
+use crate::readers::forked_in;
+use crate::readers::key_set;
 use base::size;
 use places::Places;
 use places::sets::common;
@@ -7,18 +10,18 @@ use places::sets::put_place;
 ghost use mathlib.Core.Path.{_≡_};
 ghost use mathlib.Core.Bool.{_&&_};
 ghost use Prim.Native.Nat.{ℕ, _+_, _<_};
+ghost use lib.Dec.{T};
 ghost use lib.ListN.{length, getD};
 ghost use Rattle.base.specs.Bytes.{part};
 ghost use Rattle.places.specs.PlaceSets.{inSet};
-ghost use Rattle.notes.specs.Notes.{keys, signerKey, linkKey, ballotKey, formKey, Put, Backing, Walked};
-
-// How many keys there are.
-pub const KEYS: usize = 68;
+ghost use Rattle.notes.specs.Layout.{keys, wordsLen, wordNotes};
+ghost use Rattle.notes.specs.Index.{signerKey, linkKey, ballotKey, formKey, Filed, Put, Backing, Walked};
+ghost use Rattle.round.specs.Limits.{maxHeld};
 
 // The keys of 1bs and of 2as.
 const FIRSTS: usize = 65;
 
-pub const SECONDS: usize = 66;
+const SECONDS: usize = 66;
 
 fn signer_key(signer: u8) -> usize
     ensures { λ r. ⌜ r ≡ signerKey signer ⌝ }
@@ -32,7 +35,7 @@ fn link_key(link: u8) -> usize
     32 + size(link) % 16
 }
 
-pub fn ballot_key(ballot: u64) -> usize
+fn ballot_key(ballot: u64) -> usize
     ensures { λ r. ⌜ r ≡ ballotKey ballot ⌝ }
 {
     48 + ((ballot >> 32) % 16) as usize
@@ -45,48 +48,52 @@ fn form_key(form: u8) -> usize
 }
 
 // Those of a set that are in the set of key k.
-pub fn within<'a>(key_low: &'a [u64], key_high: &'a [u64], k: usize, low: u64, high: u64) -> Places
-    requires { ⌜ (k < length (now «key_low»)) × (k < length (now «key_high»)) ⌝ }
-    ensures { λ r. ⌜ ((q : ℕ) → q < 128 → inSet (r .low) (r .high) q ≡ (inSet low high q && inSet (getD (now («key_low» .entry)) k 0) (getD (now («key_high» .entry)) k 0) q)) ⌝ }
+fn within(words: &[u64], k: usize, set: Places) -> Places
+    requires { ⌜ (k < keys) × (length (now words) ≡ wordsLen) ⌝ }
+    ensures { λ r. ⌜ ((q : ℕ) → q < maxHeld → inSet (r .low) (r .high) q ≡ (inSet (set .low) (set .high) q && inSet (getD (wordNotes (now (words .entry)) .keylow) k 0) (getD (wordNotes (now (words .entry)) .keyhigh) k 0) q)) ⌝ }
 {
-    common(low, high, key_low[k], key_high[k])
+    let keyed = key_set(words, k);
+    common(set.low, set.high, keyed.low, keyed.high)
+}
+
+// The places of a set that have this ballot, and perhaps others.
+pub fn peers_of(words: &[u64], set: Places, ballot: u64) -> Places
+    requires { ⌜ length (now words) ≡ wordsLen ⌝ }
+    ensures { λ r. ⌜ ((q : ℕ) → q < maxHeld → T (inSet (set .low) (set .high) q) → Filed (wordNotes (now (words .entry)) .keylow) (wordNotes (now (words .entry)) .keyhigh) (ballotKey ballot) q → T (inSet (r .low) (r .high) q)) ⌝ }
+{
+    within(words, ballot_key(ballot), set)
 }
 
 // The places of a set that hold 1bs of this ballot, and perhaps others.
-pub fn backers_of<'a>(
-    key_low: &'a [u64],
-    key_high: &'a [u64],
-    low: u64,
-    high: u64,
-    ballot: u64,
-) -> Places
-    requires { ⌜ (length (now «key_low») ≡ keys) × (length (now «key_high») ≡ keys) ⌝ }
-    ensures { λ r. ⌜ Backing (now («key_low» .entry)) (now («key_high» .entry)) low high ballot (r .low) (r .high) ⌝ }
+pub fn backers_of(words: &[u64], set: Places, ballot: u64) -> Places
+    requires { ⌜ length (now words) ≡ wordsLen ⌝ }
+    ensures { λ r. ⌜ Backing (wordNotes (now (words .entry))) (set .low) (set .high) ballot (r .low) (r .high) ⌝ }
 {
-    let ones = within(key_low, key_high, FIRSTS, low, high);
-    within(key_low, key_high, ballot_key(ballot), ones.low, ones.high)
+    let ones = within(words, FIRSTS, set);
+    within(words, ballot_key(ballot), ones)
 }
 
-// The places to be asked for a message that reaches the set (low, high); `forked` has each place that forks with one before it.
-pub fn walks_for<'a>(
-    key_low: &'a [u64],
-    key_high: &'a [u64],
-    forked: Places,
-    low: u64,
-    high: u64,
-    ballot: u64,
-    signer: u8,
-    link: u8,
-) -> Walks
-    requires { ⌜ (length (now «key_low») ≡ keys) × (length (now «key_high») ≡ keys) ⌝ }
-    ensures { λ r. ⌜ Walked (now («key_low» .entry)) (now («key_high» .entry)) (forked .low) (forked .high) low high ballot signer link r ⌝ }
+// The places of 2as, and perhaps others.
+pub fn votes_in(words: &[u64]) -> Places
+    requires { ⌜ length (now words) ≡ wordsLen ⌝ }
+    ensures { λ r. ⌜ ((q : ℕ) → Filed (wordNotes (now (words .entry)) .keylow) (wordNotes (now (words .entry)) .keyhigh) (formKey 2) q → T (inSet (r .low) (r .high) q)) ⌝ }
+{
+    key_set(words, SECONDS)
+}
+
+// The places to be asked for a message of this ballot, signer and link that reaches the places of a set.
+pub fn walks_for(words: &[u64], set: Places, ballot: u64, signer: u8, link: u8) -> Walks
+    requires { ⌜ length (now words) ≡ wordsLen ⌝ }
+    ensures { λ r. ⌜ Walked (wordNotes (now (words .entry))) (set .low) (set .high) ballot signer link r ⌝ }
 {
     let s = signer_key(signer);
-    let forks = within(key_low, key_high, link_key(link), key_low[s], key_high[s]);
-    let caught = common(low, high, forked.low, forked.high);
-    let votes = within(key_low, key_high, SECONDS, low, high);
-    let rivals = within(key_low, key_high, s, votes.low, votes.high);
-    let backers = backers_of(key_low, key_high, low, high, ballot);
+    let own = key_set(words, s);
+    let forks = within(words, link_key(link), own);
+    let forked = forked_in(words);
+    let caught = common(set.low, set.high, forked.low, forked.high);
+    let votes = within(words, SECONDS, set);
+    let rivals = within(words, s, votes);
+    let backers = backers_of(words, set, ballot);
     Walks {
         forks,
         caught,
@@ -98,7 +105,7 @@ pub fn walks_for<'a>(
 
 // Place j put into the sets of its keys.
 pub fn mark(sets: &mut [u64], signer: u8, link: u8, ballot: u64, form: u8, j: usize)
-    requires { ⌜ (j < 128) × (length (now sets) ≡ keys + keys) ⌝ }
+    requires { ⌜ (j < maxHeld) × (length (now sets) ≡ keys + keys) ⌝ }
     ensures { λ _. ⌜ Put (part keys (now (sets .entry)) 0) (part keys (now (sets .entry)) keys) (part keys (now (sets .exit)) 0) (part keys (now (sets .exit)) keys) signer link ballot form j ⌝ }
 {
     put_place(sets, KEYS, signer_key(signer), j);

@@ -11,7 +11,7 @@ use lib.Bits.{bitAnd, bitOr, and-mask, and-le-l}
 use lib.Dec.{T, eqb, ltb, eqb→eq, not-T}
 use Rattle.base.specs.Tests.{pick, any, below}
 use Rattle.base.specs.Sets.{has}
-use Rattle.base.proofs.Tests.{same-test, not-true, eq→eqb, neqb→ne, or-l, or-r, or-out, any-in, any-out, below-in}
+use Rattle.base.proofs.Tests.{same-test, not-true, eq→eqb, neqb→ne, and-in, or-l, or-r, or-out, any-in, any-out, below-in}
 use Rattle.base.proofs.Bits.{one-shl, some-bit}
 use Rattle.base.proofs.Sets.{has-or, has-and, has-one, has-below}
 use Rattle.places.specs.PlaceSets.{inSet, meets}
@@ -162,3 +162,7 @@ both false false e = (e, e)
 pub not-put : (on m : Bool) (p q : ℕ) → (on && ltb p 32) ≡ false → q < 32 → m ≡ ((on && eqb p q) || m)
 not-put true m p q h l = sym (ap (λ (b : Bool). b || m) (ne-eqb p q (λ e. let g = ltb-false p 32 h in omega arith)))
 not-put false m p q h l = refl
+
+-- what two sets have, their common part has
+pub in-both : {x : Bool} (y z : Bool) → x ≡ (y && z) → T y → T z → T x
+in-both y z e s t = subst T (sym e) (and-in y z s t)

@@ -31,8 +31,8 @@ Dropped low high low′ high′ = (f : ℕ) → T (inSet low high f) → NoneBel
 
 -- ---- arrays over the places
 -- an array with an entry for each place
-abbrev pub Whole : List ℕ → Type 0
-Whole l = length l ≡ 128
+abbrev pub Column : List ℕ → Type 0
+Column l = length l ≡ 128
 
 -- the set has each of the first n places that passes the test
 abbrev pub Covers : ℕ → (ℕ → Bool) → ℕ → ℕ → Type 0

@@ -21,7 +21,7 @@ use Rattle.protocol.specs.WellFormed.{linked, chained, formed1b}
 use Rattle.protocol.specs.Table.{Held, offers, heldId, heldPrevious, offered, places, nodeBy, tree, joint, contentOf}
 use Rattle.round.specs.Round.{Round}
 use Rattle.round.specs.Limits.{maxHeld}
-use Rattle.round.specs.Held.{isKnown, tableOf, placeOf}
+use Rattle.round.specs.Holdings.{isKnown, tableOf, placeOf}
 use Rattle.round.specs.Rows.{idsFrom, referenceIds, previousId, orZero, voteRecord, messageOf, proposalRows, acceptorRows, firstOf}
 use Rattle.round.specs.Demands.{IdRule}
 use Rattle.round.proofs.Step.{contentRead, contentIn, Records}

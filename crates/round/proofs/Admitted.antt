@@ -21,7 +21,7 @@ use Rattle.protocol.specs.Table.{Held, offers}
 use Rattle.round.specs.Round.{Round}
 use Rattle.round.specs.declared.Outcome.the-variants as outcome
 use Rattle.round.specs.Limits.{replyLen}
-use Rattle.round.specs.Held.{graphOf, votes, placeOf}
+use Rattle.round.specs.Holdings.{graphOf, isVoting, placeOf}
 use Rattle.round.specs.Handed.{fits}
 use Rattle.round.specs.Rows.{referenceIds, previousId, otherRound, foreign, isKnownId, lacks, unchained, voteRecord, messageOf, room, full, proposalRows, acceptorRows, firstOf}
 use Rattle.round.specs.Reply.{replyBytes, replyRecord, isSent}
@@ -40,7 +40,7 @@ module _ (H : List ℕ → Id) where
   unfolding processed
   processed-kept s p =
       let z = replyBytes s p in
-      kept-pick (votes s) (answered H s p z) (record { outcome = outcome.Accepted; round = s; reply = [] })
+      kept-pick (isVoting s) (answered H s p z) (record { outcome = outcome.Accepted; round = s; reply = [] })
       (kept-pick (isSent s (messageOf s (replyRecord s (H z) p))) (sent H s p z) (joins H s p) (λ e. replied-refused (length z) e) (λ e. accepted-refused e))
       (λ e. accepted-refused e)
 

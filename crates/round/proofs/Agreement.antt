@@ -8,7 +8,7 @@ use lib.Dec.{not-T}
 use Rattle.base.specs.Tests.{_∈_}
 use Rattle.base.specs.Ballots.{valueOf}
 use Rattle.graph.specs.LearnerGraph.{LearnerGraph}
-use Rattle.graph.specs.Held.{viewOf}
+use Rattle.graph.specs.Memory.{viewOf}
 use Rattle.protocol.specs.Ids.{Id}
 use Rattle.protocol.specs.Message.{Message, caughtIn}
 use Rattle.protocol.specs.Report.{Verdict, decided, split}
@@ -18,7 +18,7 @@ use Rattle.protocol.proofs.Agreement.{entangled-turned, entangled-self}
 use Rattle.protocol.proofs.Tables.{messages-out, lawful}
 use Rattle.round.specs.Round.{Round}
 use Rattle.round.specs.declared.Report.the-variants.{Decided, Split}
-use Rattle.round.specs.Held.{graphOf, tableOf, knownPlaces}
+use Rattle.round.specs.Holdings.{graphOf, tableOf, knownPlaces}
 use Rattle.round.specs.Lists.{Call, run, lastRound, accepted, written, reports}
 use Rattle.round.specs.Demands.{IdRule, Starts, SafeEdge, NoCollision, OneValue, AgreementOverLists}
 use Rattle.round.proofs.CallLaws.{CallLaws}

@@ -26,7 +26,7 @@ use Rattle.protocol.proofs.Growth.{at-append, at-end, tree-end, ordered-snoc}
 use Rattle.round.specs.Round.{Round}
 use Rattle.round.specs.declared.Outcome.the-variants as outcome
 use Rattle.round.specs.Limits.{maxHeld, acceptorRoom, listening}
-use Rattle.round.specs.Held.{graphOf, votes, idAt, isRecent, isProposalAt, signerAt, previousAt, referencesAt, recordAt, tableOf, isKnown, placeOf}
+use Rattle.round.specs.Holdings.{graphOf, isVoting, idAt, isRecent, isProposalAt, signerAt, previousAt, referencesAt, recordAt, tableOf, isKnown, placeOf}
 use Rattle.round.specs.Rows.{placed, isKnownId, isAwaited, messageOf, proposalRows, firstOf}
 use Rattle.round.specs.Reply.{replyPlaces, replyBytes, replyRecord, isSent}
 use Rattle.round.specs.Delivery.{Result, sent, joins, processed, hold, entered, decidedBy, taken, delivery}
@@ -126,7 +126,7 @@ pick-both true true x y w h k = refl
 pick-both true false x y w h k = absurd k
 pick-both false b x y w h k = absurd h
 
-module _ (H : List ℕ → Id) (r : Round) (typed : Typed r) (fit : Fitting r) (voting : T (votes r)) (b : List ℕ) (f : Proposal)
+module _ (H : List ℕ → Id) (r : Round) (typed : Typed r) (fit : Fitting r) (voting : T (isVoting r)) (b : List ℕ) (f : Proposal)
     (acc : Accepts H r b (offers (H b) (f .proposer) (f .ballot))) (new : placeOf r (H b) ≡ none) (free : r .held < acceptorRoom) (positive : 0 < f .ballot)
     (lower : (q : ℕ) → q < r .held → T (isProposalAt r q) → getD (r .ballots) q 0 < f .ballot) where
   abbrev h : Held
@@ -212,7 +212,7 @@ module _ (H : List ℕ → Id) (r : Round) (typed : Typed r) (fit : Fitting r) (
   answers : processed H s (r .held) .outcome ≡ outcome.Replied (length z)
   unfolding processed
   answers =
-      pick-both (votes s) (isSent s (messageOf s vote)) (sent H s (r .held) z) (joins H s (r .held)) (record { outcome = outcome.Accepted; round = s; reply = [] })
+      pick-both (isVoting s) (isSent s (messageOf s vote)) (sent H s (r .held) z) (joins H s (r .held)) (record { outcome = outcome.Accepted; round = s; reply = [] })
       (subst (λ (n : ℕ). T (ltb n listening)) (hold-same r typed fit fits-in h (acc .storable) 1 .own) voting) is-sent
 
 -- there is room, and the id is not known
@@ -225,7 +225,7 @@ newBallotAnswered H rule r typed voting b buffer f ok reads house bay new free p
     let h = offers (H b) (f .proposer) (f .ballot) in
     let fit = fits-out r (ok .0) in
     let unknown : T (not (isKnownId r (H b))) = subst (λ (o : Option ℕ). T (not (placed (isKnown r) o))) (sym new) tt in
-    let passes : firstOf (proposalRows r (H b) f) ≡ none = proposal-none r (H b) f house bay unknown (room-found (votes r && not (isAwaited r (H b))) (r .held) free) in
+    let passes : firstOf (proposalRows r (H b) f) ≡ none = proposal-none r (H b) f house bay unknown (room-found (isVoting r && not (isAwaited r (H b))) (r .held) free) in
     let acc = proposal-accepts H rule r (fit .most) b f reads passes in
     let enters : delivery H r b buffer ≡ processed H (hold r h 1) (r .held) =
     handed H r b buffer ok ∙ ap (taken H r b) reads ∙ ap (decidedBy H r (H b) h) passes ∙ ap (entered H r h) new in

@@ -20,7 +20,7 @@ use Rattle.protocol.specs.Table.{Held, heldId, heldPrevious, offered, places, j
 use Rattle.round.specs.Round.{Round}
 use Rattle.round.specs.declared.Outcome.the-variants as outcome
 use Rattle.round.specs.Limits.{maxHeld, noPlace}
-use Rattle.round.specs.Held.{votes, idAt, named, tableOf}
+use Rattle.round.specs.Holdings.{isVoting, idAt, named, tableOf}
 use Rattle.round.specs.Rows.{messageOf}
 use Rattle.round.specs.Reply.{replyPlaces, replyBytes, replyRecord, isSent}
 use Rattle.round.specs.Delivery.{Result, hold, withRecent, recentWith, sent, joins, answered, processed}
@@ -84,7 +84,7 @@ module _ (H : List ℕ → Id) (s : Round) (typed : Typed s) (fit : Fitting s) (
       }
 
 -- ---- a message is sent
-module _ (H : List ℕ → Id) (rule : IdRule H) (s : Round) (typed : Typed s) (fit : Fitting s) (voting : T (votes s)) (room : s .held < maxHeld) (p : ℕ) (here : p < s .held) where
+module _ (H : List ℕ → Id) (rule : IdRule H) (s : Round) (typed : Typed s) (fit : Fitting s) (voting : T (isVoting s)) (room : s .held < maxHeld) (p : ℕ) (here : p < s .held) where
   abbrev z : List ℕ
   z = replyBytes s p
 
@@ -160,10 +160,10 @@ module _ (H : List ℕ → Id) (rule : IdRule H) (s : Round) (typed : Typed s) (
       }
 
 -- ---- either, as the message was accepted
-pub processing : (H : List ℕ → Id) → IdRule H → (s : Round) → Typed s → Fitting s → (T (votes s) → s .held < maxHeld) → (p : ℕ) → p < s .held → Answers H s p (processed H s p)
+pub processing : (H : List ℕ → Id) → IdRule H → (s : Round) → Typed s → Fitting s → (T (isVoting s) → s .held < maxHeld) → (p : ℕ) → p < s .held → Answers H s p (processed H s p)
 unfolding processed
 processing H rule s typed fit room p here =
-    pick-answers H s p (votes s) (answered H s p (replyBytes s p)) (record { outcome = outcome.Accepted; round = s; reply = [] })
+    pick-answers H s p (isVoting s) (answered H s p (replyBytes s p)) (record { outcome = outcome.Accepted; round = s; reply = [] })
     (λ v. pick-answers H s p (isSent s (messageOf s (replyRecord s (H (replyBytes s p)) p))) (sent H s p (replyBytes s p)) (joins H s p)
     (λ t. sends H rule s typed fit v (room v) p here)
     (joined-recent H s typed fit p here))

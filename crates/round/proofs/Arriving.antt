@@ -14,7 +14,7 @@ use Rattle.protocol.specs.Table.{says, gather, nodeBy, tree}
 use Rattle.protocol.proofs.Ids.{sameId-law}
 use Rattle.protocol.proofs.Table.{tree-id, tree-signer, tree-proposal, gather-in}
 use Rattle.round.specs.Round.{Round}
-use Rattle.round.specs.Held.{idAt, isKnown, isProposalAt, signerAt, tableOf, placeOf}
+use Rattle.round.specs.Holdings.{idAt, isKnown, isProposalAt, signerAt, tableOf, placeOf}
 use Rattle.round.specs.Rows.{placed, orZero, isKnownId, lacks, isVoteOf, unchained}
 use Rattle.round.proofs.Named.{place-some}
 use Rattle.round.proofs.Order.{idsOf}

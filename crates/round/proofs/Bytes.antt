@@ -18,7 +18,7 @@ use Rattle.protocol.specs.Report as protocol
 use Rattle.protocol.specs.Table.{Held, offers, says, Table, heldSigner, heldPrevious, offered, nodeBy, idsAt, joint, plain, contentOf}
 use Rattle.round.specs.Round.{Round}
 use Rattle.round.specs.declared.Report.the-variants as answer
-use Rattle.round.specs.Held.{graphOf, knownMessages}
+use Rattle.round.specs.Holdings.{graphOf, knownMessages}
 use Rattle.round.specs.Handed.{fits}
 use Rattle.round.specs.Rows.{previousId, referenceIds}
 use Rattle.round.specs.Report.{told, reported}

@@ -5,10 +5,10 @@ use mathlib.Core.Option.{none}
 use mathlib.Core.List.{List}
 use Prim.Native.Nat.{ℕ, _<_}
 use lib.Dec.{T}
-use Rattle.graphfile.specs.Held.{readingOf}
+use Rattle.graphfile.specs.Arrays.{readingOf}
 use Rattle.protocol.specs.Theorems.{SoundGraph, Peopled}
 use Rattle.round.specs.Round.{Round}
-use Rattle.round.specs.Held.{graphOf, named}
+use Rattle.round.specs.Holdings.{graphOf, named}
 use Rattle.round.specs.Handed.{fits}
 use Rattle.round.specs.Demands.{Starts, Typed, RefusedLeavesAll}
 use Rattle.round.proofs.Step.{StepLaw}

@@ -16,7 +16,7 @@ use Rattle.protocol.specs.Table.{Held, offers, says, Table, at, heldId, places,
 use Rattle.protocol.proofs.Ids.{sameId-law}
 use Rattle.protocol.proofs.Growth.{at-append, length-tabulate}
 use Rattle.round.specs.Round.{Round}
-use Rattle.round.specs.Held.{idAt, recordAt, tableOf, lowest, placeOf}
+use Rattle.round.specs.Holdings.{idAt, recordAt, tableOf, lowest, placeOf}
 use Rattle.round.proofs.Records.{table-id}
 
 -- ---- the lowest number that passes

@@ -18,7 +18,7 @@ use Rattle.protocol.specs.Theorems.{Within}
 use Rattle.round.specs.Round.{Round}
 use Rattle.round.specs.declared.Outcome.{Outcome}
 use Rattle.round.specs.declared.Outcome.the-variants as outcome
-use Rattle.round.specs.Held.{named}
+use Rattle.round.specs.Holdings.{named}
 use Rattle.round.specs.Rows.{previousId}
 use Rattle.round.specs.Delivery.{Result, delivery, replied}
 use Rattle.round.specs.Lists.{Call, deliver, report, run, writtenBy, written}

@@ -13,7 +13,7 @@ use Rattle.protocol.specs.Ids.{Id}
 use Rattle.round.specs.Round.{Round}
 use Rattle.round.specs.declared.Outcome.{Outcome}
 use Rattle.round.specs.declared.Outcome.the-variants as outcome
-use Rattle.round.specs.Held.{named}
+use Rattle.round.specs.Holdings.{named}
 use Rattle.round.specs.Delivery.{delivery, replied}
 use Rattle.round.specs.Lists.{Call, deliver, report, after, run, lastRound, writtenBy, written}
 use Rattle.round.specs.Demands.{IdRule, Starts, Typed, ReplySays, OwnChained, ReplyIsChained, RecentHoldsVotes}

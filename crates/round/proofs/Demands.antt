@@ -6,9 +6,9 @@ use Rattle.digest.specs.Sha256.{sha256}
 use Rattle.graph.specs.declared.Answer.the-variants.{Accepted}
 use Rattle.graph.specs.declared.Graph.{Graph}
 use Rattle.graphfile.specs.File.{answerOf}
-use Rattle.graph.specs.Held.{viewOf}
-use Rattle.graphfile.specs.Held.{readingOf}
-use Rattle.graphfile.proofs.Whole.{reading-answer}
+use Rattle.graph.specs.Memory.{viewOf}
+use Rattle.graphfile.specs.Arrays.{readingOf}
+use Rattle.graphfile.proofs.Files.{reading-answer}
 use Rattle.graphfile.proofs.Accepted.{acceptedIsSound, undirected-symmetric}
 use Rattle.graphfile.proofs.Peopled.{accepted-peopled}
 use Rattle.protocol.specs.Theorems.{SoundGraph, Peopled}

@@ -12,7 +12,7 @@ use Rattle.protocol.specs.Ids.{Id}
 use Rattle.protocol.specs.Table.{Held}
 use Rattle.round.specs.Round.{Round}
 use Rattle.round.specs.Limits.{maxHeld, acceptorRoom, listening}
-use Rattle.round.specs.Held.{votes, idAt, named, isKnown, placeOf}
+use Rattle.round.specs.Holdings.{isVoting, idAt, named, isKnown, placeOf}
 use Rattle.round.specs.Rows.{placed}
 use Rattle.round.specs.Delivery.{Result, hold, returned, processed, entered}
 use Rattle.round.specs.Demands.{IdRule, Typed, RecentId}
@@ -52,7 +52,7 @@ pub record SameRecent (H : List ℕ → Id) (r s : Round) (b : List ℕ) (p : �
 
 module _ (H : List ℕ → Id) (rule : IdRule H) (r : Round) (typed : Typed r) (fit : Fitting r) (b : List ℕ) (h : Held) (acc : Accepts H r b h) where
   room : r .held < maxHeld
-  room = room-left (votes r) (λ p. not (isKnown r p)) (placeOf r (H b)) (r .held) (acc .fresh .notFull)
+  room = room-left (isVoting r) (λ p. not (isKnown r p)) (placeOf r (H b)) (r .held) (acc .fresh .notFull)
 
   spoken : (s : Round) (p : ℕ) (d : Result) → Arrives H r s b → SameRecent H r s b p → Speaks s (idAt s p) d → Speaks r (H b) d
   spoken s p d a c w n e =
@@ -115,8 +115,8 @@ module _ (H : List ℕ → Id) (rule : IdRule H) (r : Round) (typed : Typed r) (
       processing H rule s (hold-typed r typed fit room h (acc .storable) 1) (hold-fitting r typed fit room h (acc .storable) 1)
       (λ v.
       let w : r .held < acceptorRoom =
-      room-behind (votes r) (λ p. not (isKnown r p)) (r .held)
-      (subst (λ (o : Option ℕ). T (not (leb (pick (votes r && not (placed (λ p. not (isKnown r p)) o)) acceptorRoom maxHeld) (r .held)))) e (acc .fresh .notFull))
+      room-behind (isVoting r) (λ p. not (isKnown r p)) (r .held)
+      (subst (λ (o : Option ℕ). T (not (leb (pick (isVoting r && not (placed (λ p. not (isKnown r p)) o)) acceptorRoom maxHeld) (r .held)))) e (acc .fresh .notFull))
       (subst (λ (n : ℕ). T (ltb n listening)) (sym own) v) in
       omega arith)
       (r .held) (omega arith)

@@ -13,7 +13,7 @@ use Rattle.protocol.specs.Ids.{Id}
 use Rattle.protocol.specs.Table.{offers, says}
 use Rattle.round.specs.Round.{Round}
 use Rattle.round.specs.Limits.{maxHeld, noPlace}
-use Rattle.round.specs.Held.{idAt, isProposalAt, referencesAt, named, recordAt}
+use Rattle.round.specs.Holdings.{idAt, isProposalAt, referencesAt, named, recordAt}
 use Rattle.round.specs.Handed.{placeFits, refersBack, messageFits, graphFits, ownFits, fits}
 
 -- ---- a place is none, or that of a held message

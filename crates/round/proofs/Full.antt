@@ -26,7 +26,7 @@ use Rattle.protocol.specs.Table.{Held, offers}
 use Rattle.round.specs.Round.{Round}
 use Rattle.round.specs.declared.Outcome.the-variants as outcome
 use Rattle.round.specs.Limits.{maxHeld, acceptorRoom, replyLen}
-use Rattle.round.specs.Held.{votes, placeOf}
+use Rattle.round.specs.Holdings.{isVoting, placeOf}
 use Rattle.round.specs.Handed.{fits}
 use Rattle.round.specs.Rows.{referenceIds, previousId, isAwaited, voteRecord, messageOf, room, full, proposalRows, acceptorRows, firstOf}
 use Rattle.round.specs.Delivery.{Result, refused, decidedBy, taken, delivery}
@@ -117,8 +117,8 @@ module _ (r : Round) (i : Id) where
       (skip _ _ _ (λ e. absurd (omega arith)) (skip _ _ _ (λ e. absurd (omega arith)) (skip _ _ _ (λ e. absurd (omega arith)) k)))))))
 
   -- "128 held; for an acceptor 127, or 128 for its own message returning"
-  full-words : T (full r i) → (127 ≤ r .held) × ((T (votes r) → ⊥) ⊎ T (isAwaited r i) → 128 ≤ r .held)
-  full-words h = words (votes r) (isAwaited r i) (leb→le (room r i) (r .held) h)
+  full-words : T (full r i) → (127 ≤ r .held) × ((T (isVoting r) → ⊥) ⊎ T (isAwaited r i) → 128 ≤ r .held)
+  full-words h = words (isVoting r) (isAwaited r i) (leb→le (room r i) (r .held) h)
     where
       words : (v a : Bool) → pick (v && not a) acceptorRoom maxHeld ≤ r .held → (127 ≤ r .held) × ((T v → ⊥) ⊎ T a → 128 ≤ r .held)
       words true true l = (omega arith, λ w. l)

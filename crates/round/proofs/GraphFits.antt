@@ -12,15 +12,15 @@ use Rattle.graph.specs.declared.Answer.{Answer}
 use Rattle.graph.specs.declared.Answer.the-variants.{Accepted, Refused}
 use Rattle.graph.specs.Limits.{maxAcceptors, maxLearners, maxMasks, lists}
 use Rattle.graph.specs.Answers.{graphAnswer}
-use Rattle.graphfile.specs.File.{Got, got, no, Contents, contents, graphOf}
+use Rattle.graphfile.specs.File.{Got, got, no, Contents, contents, graphSaid}
 use Rattle.graphfile.proofs.Reader.{Small, Rows, GraphGot, graph-got}
 use Rattle.graphfile.proofs.Accepted.{FileGot, file-got}
-use Rattle.graph.specs.Held.{pairList}
-use Rattle.graphfile.specs.Held.{Held, hold, holdAll, holdRows, heldOf, nothing, graphOfHeld, graphReading, contentsReading, readingOf}
+use Rattle.graph.specs.Memory.{pairList}
+use Rattle.graphfile.specs.Arrays.{ListArrays, hold, holdAll, holdRows, heldOf, nothing, graphOfHeld, graphReading, contentsReading, readingOf}
 use Rattle.round.specs.Handed.{inUse, listFits, graphFits}
 
 -- ---- lists held
-abbrev Counts : Held → Type 0
+abbrev Counts : ListArrays → Type 0
 Counts h = (k : ℕ) → getD (h .counts) k 0 ≤ maxMasks
 
 set-small : (l : List ℕ) (i x : ℕ) → ((k : ℕ) → getD l k 0 ≤ maxMasks) → x ≤ maxMasks → (k : ℕ) → getD (set l i x) k 0 ≤ maxMasks
@@ -30,12 +30,12 @@ set-small (y ∷ l) zero x h e (suc k) = h (suc k)
 set-small (y ∷ l) (suc i) x h e zero = h zero
 set-small (y ∷ l) (suc i) x h e (suc k) = set-small l i x (λ j. h (suc j)) e k
 
-hold-all : (f : ℕ → ℕ) (i : ℕ) (ls : List (List ℕ)) (h : Held) → Small ls → Counts h → Counts (holdAll f i ls h)
+hold-all : (f : ℕ → ℕ) (i : ℕ) (ls : List (List ℕ)) (h : ListArrays) → Small ls → Counts h → Counts (holdAll f i ls h)
 unfolding holdAll
 hold-all f i [] h a c = c
 hold-all f i (l ∷ ls) h a c = hold-all f (suc i) ls (hold (f i) l h) (λ x m. a x (List·Memᴰ·tail m)) (set-small (h .counts) (f i) (length l) c (a l (List·Memᴰ·head refl)))
 
-hold-rows : (i k : ℕ) (rows : List (List (List ℕ))) (h : Held) → Rows k rows → Counts h → Counts (holdRows i rows h)
+hold-rows : (i k : ℕ) (rows : List (List (List ℕ))) (h : ListArrays) → Rows k rows → Counts h → Counts (holdRows i rows h)
 unfolding holdRows
 hold-rows i zero rows h a c = subst (λ (x : List (List (List ℕ))). Counts (holdRows i x h)) (sym a) c
 hold-rows i (suc k) [] h a c = absurd a
@@ -70,7 +70,7 @@ reading-fits s f Accepted w e = says-fits s f w
 reading-fits s f (Refused r) w e = let z : _≡_ {A = ℕ} 0 1 = cc in absurd (omega arith)
 
 got-fits : (s : List ℕ) (g : Got Contents) → contents s ≡ g → contentsReading g .answer ≡ Accepted → T (graphFits (contentsReading g .graph))
-got-fits s (got f m) e k = reading-fits s f (graphAnswer (graphOf f)) (file-got s f m e) k
+got-fits s (got f m) e k = reading-fits s f (graphAnswer (graphSaid f)) (file-got s f m e) k
 got-fits s (no r) e k = let z : _≡_ {A = ℕ} 0 1 = cc in absurd (omega arith)
 
 pub accepted-fits : (s : List ℕ) → readingOf s .answer ≡ Accepted → T (graphFits (readingOf s .graph))

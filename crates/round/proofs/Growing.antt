@@ -15,7 +15,7 @@ use Rattle.message.specs.Layout.{idLen, proposalKind}
 use Rattle.protocol.specs.Table.{Held, heldId, heldSigner, heldPrevious, offered, places}
 use Rattle.round.specs.Round.{Round}
 use Rattle.round.specs.Limits.{maxHeld}
-use Rattle.round.specs.Held.{idAt, isProposalAt, referencesAt}
+use Rattle.round.specs.Holdings.{idAt, isProposalAt, referencesAt}
 use Rattle.round.specs.Handed.{placeFits, ownFits, refersBack}
 use Rattle.round.specs.Delivery.{hold, previousPlace}
 use Rattle.round.specs.Demands.{Typed}

@@ -15,7 +15,7 @@ use Rattle.message.specs.Layout.{idLen, proposalKind, acceptorKind}
 use Rattle.protocol.specs.Table.{Held, offers, says, tabulate, heldId, heldSigner, heldPrevious, offered, places}
 use Rattle.round.specs.Round.{Round}
 use Rattle.round.specs.Limits.{maxHeld, noPlace}
-use Rattle.round.specs.Held.{idAt, named, previousAt, referencesAt, recordAt, tableOf}
+use Rattle.round.specs.Holdings.{idAt, named, previousAt, referencesAt, recordAt, tableOf}
 use Rattle.round.specs.Handed.{placeFits}
 use Rattle.round.specs.Delivery.{hold, previousPlace}
 use Rattle.round.specs.Demands.{Typed}

@@ -16,12 +16,12 @@ use Rattle.graph.specs.declared.Answer.{Answer}
 use Rattle.graph.specs.declared.Answer.the-variants.{Accepted, Refused}
 use Rattle.graph.specs.declared.Graph.{Graph}
 use Rattle.graphfile.specs.declared.Reading.{Reading}
-use Rattle.graphfile.specs.Held.{readingOf}
+use Rattle.graphfile.specs.Arrays.{readingOf}
 use Rattle.protocol.specs.Table.{tabulate}
 use Rattle.round.specs.Round.{Round}
 use Rattle.round.specs.declared.Opening.the-variants as opening
 use Rattle.round.specs.Limits.{maxHeld, noPlace, listening}
-use Rattle.round.specs.Held.{named, tableOf, knownPlaces}
+use Rattle.round.specs.Holdings.{named, tableOf, knownPlaces}
 use Rattle.round.specs.Handed.{graphFits, ownFits, fits}
 use Rattle.round.specs.Opening.{emptyRound, refusedOpening, openedWith, opened}
 use Rattle.round.specs.Demands.{Starts, Typed}

@@ -16,7 +16,7 @@ use Rattle.protocol.specs.Theorems as theorems
 use Rattle.protocol.proofs.Reach.{reach-inside}
 use Rattle.round.specs.Round.{Round}
 use Rattle.round.specs.declared.Report.{Report}
-use Rattle.round.specs.Held.{tableOf, isKnown, knownPlaces}
+use Rattle.round.specs.Holdings.{tableOf, isKnown, knownPlaces}
 use Rattle.round.specs.Lists.{Call, run, lastRound, accepted, written, reports}
 use Rattle.round.specs.Demands.{IdRule, Starts, NoCollision, ReachedFits, KnownBeneath}
 use Rattle.round.proofs.Step.{contentIn, Readable}

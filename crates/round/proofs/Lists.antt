@@ -18,7 +18,7 @@ use Rattle.round.specs.Round.{Round}
 use Rattle.round.specs.declared.Outcome.{Outcome}
 use Rattle.round.specs.declared.Outcome.the-variants as outcome
 use Rattle.round.specs.declared.Report.{Report}
-use Rattle.round.specs.Held.{recordAt, tableOf, isKnown}
+use Rattle.round.specs.Holdings.{recordAt, tableOf, isKnown}
 use Rattle.round.specs.Delivery as given
 use Rattle.round.specs.Report.{reported}
 use Rattle.round.specs.Lists.{Call, deliver, report, Seen, delivery, reporting, seen, after, run, lastRound, acceptedBy, accepted, writtenBy, written, reports}

@@ -15,7 +15,7 @@ use Rattle.base.proofs.Tests.{dec-T, neqb→ne, not-true}
 use Rattle.protocol.specs.Ids.{Id}
 use Rattle.round.specs.Round.{Round}
 use Rattle.round.specs.Limits.{maxHeld, noPlace}
-use Rattle.round.specs.Held.{idAt, named, isKnown}
+use Rattle.round.specs.Holdings.{idAt, named, isKnown}
 use Rattle.round.specs.Handed.{placeFits, ownFits, refersBack}
 use Rattle.round.specs.Rows.{orZero}
 use Rattle.round.specs.Delivery.{previousPlace, returned, withRecent}

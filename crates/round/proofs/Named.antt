@@ -11,7 +11,7 @@ use Rattle.base.proofs.Tests.{dec-T, neqb→ne}
 use Rattle.protocol.specs.Ids.{Id, sameId}
 use Rattle.protocol.proofs.Ids.{sameId-law}
 use Rattle.round.specs.Round.{Round}
-use Rattle.round.specs.Held.{idAt, lowest, placeOf}
+use Rattle.round.specs.Holdings.{idAt, lowest, placeOf}
 
 -- ---- the least number below n that passes
 pub record Least (f : ℕ → Bool) (n p : ℕ) : Type 0 where

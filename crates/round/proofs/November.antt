@@ -24,7 +24,7 @@ use Rattle.protocol.proofs.Table.{tree-is, tree-id, tree-signer, tree-previous,
 use Rattle.protocol.proofs.Tables.{same-tree}
 use Rattle.protocol.proofs.November.{same-caught-at}
 use Rattle.round.specs.Round.{Round}
-use Rattle.round.specs.Held.{tableOf, isKnown}
+use Rattle.round.specs.Holdings.{tableOf, isKnown}
 use Rattle.round.specs.Rows.{referenceIds, previousId}
 use Rattle.round.specs.Lists.{Call, run, lastRound, accepted, written}
 use Rattle.round.specs.Demands.{IdRule, Starts, NoCollision, SameCaughtIn, SameCaughtOverLists, OneCaughtList}

@@ -1,7 +1,7 @@
 -- What row 17 says of places: a round that passes it refers to places below 128 alone, and 255 stands for none in last sent and previous.
 use mathlib.Core.Path.{_≡_, refl, sym, ap, subst}
 use mathlib.Core.Logic.{_⊎_, inl, inr}
-use mathlib.Core.Bool.{Bool, true, false, not, _||_}
+use mathlib.Core.Bool.{Bool, false, not, _||_}
 use mathlib.Core.List.{List, [], _∷_}
 use Prim.Native.Nat.{ℕ, zero, suc, _≤_, _<_}
 use native.Mathlib.Omega.{arith}
@@ -17,7 +17,7 @@ use Rattle.round.specs.Round.{Round}
 use Rattle.round.specs.declared.Outcome.the-variants as outcome
 use Rattle.round.specs.declared.Report.the-variants as answer
 use Rattle.round.specs.Limits.{maxHeld, noPlace, replyLen}
-use Rattle.round.specs.Held.{graphOf, isProposalAt, referencesAt, knownMessages}
+use Rattle.round.specs.Holdings.{graphOf, isProposalAt, referencesAt, knownMessages}
 use Rattle.round.specs.Handed.{placeFits, refersBack, ownFits, fits}
 use Rattle.round.specs.Delivery.{refused, taken, delivery, delivered, withRecent}
 use Rattle.round.specs.Report.{told, reported}

@@ -25,7 +25,7 @@ use Rattle.protocol.specs.Table.{Held, offers}
 use Rattle.round.specs.Round.{Round}
 use Rattle.round.specs.declared.Outcome.the-variants as outcome
 use Rattle.round.specs.Limits.{replyLen}
-use Rattle.round.specs.Held.{votes, placeOf}
+use Rattle.round.specs.Holdings.{isVoting, placeOf}
 use Rattle.round.specs.Handed.{fits}
 use Rattle.round.specs.Rows.{otherRound, referenceIds, previousId, voteRecord, messageOf, proposalRows, acceptorRows, firstOf}
 use Rattle.round.specs.Reply.{replyBytes, replyRecord, isSent}
@@ -75,7 +75,7 @@ module _ (r : Round) where
     unfolding processed
     shape-processed s p =
         let z = replyBytes s p in
-        shape-pick (votes s) (answered H s p z) (record { outcome = outcome.Accepted; round = s; reply = [] })
+        shape-pick (isVoting s) (answered H s p z) (record { outcome = outcome.Accepted; round = s; reply = [] })
         (shape-pick (isSent s (messageOf s (replyRecord s (H z) p))) (sent H s p z) (joins H s p) (shape-sent s p z) (shape-accepted (joins H s p .round)))
         (shape-accepted s)
 

@@ -18,7 +18,7 @@ use Rattle.protocol.specs.Table.{Held, offers}
 use Rattle.round.specs.Round.{Round}
 use Rattle.round.specs.declared.Outcome.the-variants as outcome
 use Rattle.round.specs.Limits.{replyLen}
-use Rattle.round.specs.Held.{placeOf}
+use Rattle.round.specs.Holdings.{placeOf}
 use Rattle.round.specs.Handed.{fits}
 use Rattle.round.specs.Rows.{referenceIds, previousId, voteRecord, messageOf, proposalRows, acceptorRows, firstOf}
 use Rattle.round.specs.Delivery.{Result, refused, decidedBy, taken, delivery}

@@ -15,7 +15,7 @@ use Rattle.protocol.specs.Table.{Table, Held, places, nodeBy, tree}
 use Rattle.round.specs.Round.{Round}
 use Rattle.round.specs.declared.Outcome.{Outcome}
 use Rattle.round.specs.declared.Outcome.the-variants as outcome
-use Rattle.round.specs.Held.{tableOf, isKnown, placeOf}
+use Rattle.round.specs.Holdings.{tableOf, isKnown, placeOf}
 use Rattle.round.specs.Handed.{fits}
 use Rattle.round.specs.Demands.{Typed}
 use Rattle.round.specs.Delivery.{Result}

@@ -16,7 +16,7 @@ use Rattle.protocol.specs.Ids.{Id}
 use Rattle.protocol.specs.Table.{Held, offered}
 use Rattle.round.specs.Round.{Round}
 use Rattle.round.specs.Limits.{maxHeld, noPlace}
-use Rattle.round.specs.Held.{idAt, named, isRecent, isProposalAt}
+use Rattle.round.specs.Holdings.{idAt, named, isRecent, isProposalAt}
 use Rattle.round.specs.Delivery.{hold, withRecent, recentWith}
 use Rattle.round.specs.Demands.{Typed, RecentId}
 use Rattle.round.proofs.Fitting.{Fitting, named-kept}

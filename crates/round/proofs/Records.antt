@@ -10,7 +10,7 @@ use Rattle.protocol.specs.Ids.{Id}
 use Rattle.protocol.specs.Table.{offers, says, at, heldId, heldSigner, offered, idsAt}
 use Rattle.protocol.proofs.Growth.{at-tabulate}
 use Rattle.round.specs.Round.{Round}
-use Rattle.round.specs.Held.{idAt, signerAt, isProposalAt, previousAt, referencesAt, recordAt, tableOf}
+use Rattle.round.specs.Holdings.{idAt, signerAt, isProposalAt, previousAt, referencesAt, recordAt, tableOf}
 use Rattle.round.proofs.Order.{idsOf}
 
 module _ (b : Bool) (i : Id) (s x : ℕ) (p : Option Id) (l : List ℕ) where

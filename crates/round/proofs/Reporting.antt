@@ -7,7 +7,7 @@ use native.Mathlib.Omega.{arith}
 use Rattle.base.specs.Tests.{_∈_}
 use Rattle.base.specs.Ballots.{valueOf}
 use Rattle.graph.specs.LearnerGraph.{LearnerGraph}
-use Rattle.graph.specs.Held.{viewOf}
+use Rattle.graph.specs.Memory.{viewOf}
 use Rattle.protocol.specs.Ids.{Id}
 use Rattle.protocol.specs.Message.{Message}
 use Rattle.protocol.specs.Report.{Verdict, decided, split, report}
@@ -19,7 +19,7 @@ use Rattle.protocol.proofs.Tables.{messages-within}
 use Rattle.round.specs.Round.{Round}
 use Rattle.round.specs.declared.Report.{Report}
 use Rattle.round.specs.declared.Report.the-variants.{Decided, Split}
-use Rattle.round.specs.Held.{graphOf, tableOf, knownPlaces, knownMessages}
+use Rattle.round.specs.Holdings.{graphOf, tableOf, knownPlaces, knownMessages}
 use Rattle.round.specs.Lists.{Call, run, lastRound, accepted, written, reports}
 use Rattle.round.specs.Demands.{IdRule, Starts}
 use Rattle.round.proofs.CallLaws.{CallLaws}

@@ -24,7 +24,7 @@ use Rattle.message.proofs.RoundTrip.{acceptor-reads-back}
 use Rattle.protocol.specs.Ids.{Id}
 use Rattle.round.specs.Round.{Round}
 use Rattle.round.specs.Limits.{maxHeld, noPlace}
-use Rattle.round.specs.Held.{idAt, named, isRecent, placeOf}
+use Rattle.round.specs.Holdings.{idAt, named, isRecent, placeOf}
 use Rattle.round.specs.Handed.{placeFits}
 use Rattle.round.specs.Rows.{referenceIds, previousId}
 use Rattle.round.specs.Reply.{inReply, orEmpty, joined, replyPlaces, replyBytes}

@@ -14,7 +14,7 @@ use Rattle.message.proofs.RoundTrip.{acceptor-length-read}
 use Rattle.protocol.specs.Report.{Verdict, undecided, decided, split, report}
 use Rattle.protocol.proofs.Report.{report-undecided}
 use Rattle.round.specs.declared.Report.the-variants as answer
-use Rattle.round.specs.Held.{graphOf, knownMessages}
+use Rattle.round.specs.Holdings.{graphOf, knownMessages}
 use Rattle.round.specs.Handed.{fits}
 use Rattle.round.specs.Delivery.{delivery, replied}
 use Rattle.round.specs.Report.{told, reported}

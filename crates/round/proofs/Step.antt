@@ -18,7 +18,7 @@ use Rattle.protocol.specs.Table.{Held, heldId, places, offered, nodeBy, tree, C
 use Rattle.round.specs.Round.{Round}
 use Rattle.round.specs.declared.Outcome.{Outcome}
 use Rattle.round.specs.declared.Outcome.the-variants as outcome
-use Rattle.round.specs.Held.{votes, idAt, named, tableOf, isKnown, placeOf}
+use Rattle.round.specs.Holdings.{isVoting, idAt, named, tableOf, isKnown, placeOf}
 use Rattle.round.specs.Handed.{fits}
 use Rattle.round.specs.Rows.{referenceIds, previousId}
 use Rattle.round.specs.Delivery.{Result, delivery}
@@ -91,7 +91,7 @@ pub record Silent (s t : Round) (o : Outcome) (reply : List ℕ) : Type 0 where
 
 pub record Sends (H : List ℕ → Id) (s t : Round) (o : Outcome) (reply : List ℕ) : Type 0 where
   pub outcome : o ≡ outcome.Replied (length reply)
-  pub voting : T (votes s)
+  pub voting : T (isVoting s)
   pub record′ : Held
   pub isVote : T (not (offered record′))
   pub records : Records H s reply record′

@@ -12,7 +12,7 @@ use Rattle.protocol.specs.Ids.{Id}
 use Rattle.protocol.specs.Table.{Table, Held, at, heldId}
 use Rattle.protocol.proofs.Growth.{at-append, at-end}
 use Rattle.round.specs.Round.{Round}
-use Rattle.round.specs.Held.{idAt, tableOf, isKnown, placeOf}
+use Rattle.round.specs.Holdings.{idAt, tableOf, isKnown, placeOf}
 use Rattle.round.specs.Rows.{placed, isKnownId}
 use Rattle.round.specs.ShutOut.{AcceptedIsKnown}
 use Rattle.round.proofs.Step.{Returns, Appends, Arrives}

@@ -19,7 +19,7 @@ use Rattle.protocol.specs.Table.{Table, says, at, offered, Ordered, nodeBy, tre
 use Rattle.protocol.proofs.Message.{tran-law}
 use Rattle.protocol.proofs.Table.{tree-proposal, reach-self, reach-step, tran-places, gather-in}
 use Rattle.round.specs.Round.{Round}
-use Rattle.round.specs.Held.{isProposalAt, tableOf, placeOf}
+use Rattle.round.specs.Holdings.{isProposalAt, tableOf, placeOf}
 use Rattle.round.specs.Rows.{idsFrom, referenceIds, previousId, orZero, acceptorRows, firstOf}
 use Rattle.round.specs.Demands.{Typed, grounded, arriving, AlwaysGrounded, formerRows, firstNumber, SameAcceptances}
 use Rattle.round.proofs.Named.{place-some}

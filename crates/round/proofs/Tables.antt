@@ -16,7 +16,7 @@ use Rattle.protocol.specs.Table.{Held, offers, says, at, places, Ordered}
 use Rattle.protocol.proofs.Table.{at-past, nothing-past}
 use Rattle.round.specs.Round.{Round}
 use Rattle.round.specs.Limits.{maxHeld}
-use Rattle.round.specs.Held.{idAt, isProposalAt, signerAt, previousAt, referencesAt, tableOf}
+use Rattle.round.specs.Holdings.{idAt, isProposalAt, signerAt, previousAt, referencesAt, tableOf}
 use Rattle.round.specs.Demands.{Typed}
 use Rattle.round.proofs.Fitting.{Fitting, back-out}
 use Rattle.round.proofs.Records.{at-table}

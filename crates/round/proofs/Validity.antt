@@ -7,7 +7,7 @@ use Prim.Native.Nat.{ℕ, _≤_, _<_}
 use native.Mathlib.Omega.{arith}
 use lib.Dec.{T, T-not}
 use Rattle.base.specs.Tests.{_∈_}
-use Rattle.graph.specs.Held.{viewOf}
+use Rattle.graph.specs.Memory.{viewOf}
 use Rattle.graph.specs.declared.Graph.{Graph}
 use Rattle.message.specs.Reader.{reading}
 use Rattle.message.specs.declared.Proposal.{Proposal}
@@ -24,7 +24,7 @@ use Rattle.protocol.proofs.Table.{tree-is, tree-proposal, tran-places, reach-le
 use Rattle.protocol.proofs.Tables.{messages-out}
 use Rattle.round.specs.Round.{Round}
 use Rattle.round.specs.declared.Report.the-variants.{Decided}
-use Rattle.round.specs.Held.{graphOf, tableOf, knownPlaces, knownMessages}
+use Rattle.round.specs.Holdings.{graphOf, tableOf, knownPlaces, knownMessages}
 use Rattle.round.specs.Report.{reported}
 use Rattle.round.specs.Lists.{run, lastRound, accepted, written}
 use Rattle.round.specs.Demands.{ValidityOverLists}

@@ -22,7 +22,7 @@ use Rattle.round.specs.Round.{Round}
 use Rattle.round.specs.declared.Outcome.{Outcome}
 use Rattle.round.specs.declared.Outcome.the-variants as outcome
 use Rattle.round.specs.Limits.{maxHeld, noPlace, replyLen}
-use Rattle.round.specs.Held.{votes, isProposalAt, placeOf}
+use Rattle.round.specs.Holdings.{isVoting, isProposalAt, placeOf}
 use Rattle.round.specs.Handed.{fits}
 use Rattle.round.specs.Rows.{orZero, referenceIds, previousId, voteRecord, messageOf, proposalRows, acceptorRows, firstOf}
 use Rattle.round.specs.Reply.{replyBytes, replyRecord, isSent}
@@ -33,9 +33,9 @@ abbrev pub previousPlace : Round → Option Id → ℕ
 previousPlace r none = noPlace
 previousPlace r (some i) = orZero (placeOf r i)
 
--- a record put behind the held ones; known is 1 or 0. Only what it needs is written.
-unfoldable pub hold : Round → Held → ℕ → Round
-hold r (offers i s b) known =
+-- a row put behind the held ones, one entry in each column; the references as given
+abbrev pub withRow : Round → List ℕ → Id → ℕ → ℕ → ℕ → ℕ → ℕ → ℕ → Round
+withRow r references id kind signer ballot previous count known =
     record {
       graph = r .graph;
       house = r .house;
@@ -43,59 +43,20 @@ hold r (offers i s b) known =
       own = r .own;
       held = r .held + 1;
       last = r .last;
-      ids = putAt (r .ids) (idLen * r .held) i;
-      kinds = set (r .kinds) (r .held) proposalKind;
-      signers = set (r .signers) (r .held) s;
-      ballots = set (r .ballots) (r .held) b;
-      previous = set (r .previous) (r .held) noPlace;
-      counts = set (r .counts) (r .held) 0;
-      references = r .references;
-      known = set (r .known) (r .held) known;
-      recent = set (r .recent) (r .held) 0;
-    }
-hold r (says i s p places) known =
-    record {
-      graph = r .graph;
-      house = r .house;
-      bay = r .bay;
-      own = r .own;
-      held = r .held + 1;
-      last = r .last;
-      ids = putAt (r .ids) (idLen * r .held) i;
-      kinds = set (r .kinds) (r .held) acceptorKind;
-      signers = set (r .signers) (r .held) s;
-      ballots = set (r .ballots) (r .held) 0;
-      previous = set (r .previous) (r .held) (previousPlace r p);
-      counts = set (r .counts) (r .held) (length places);
-      references = putAt (r .references) (maxHeld * r .held) places;
+      ids = putAt (r .ids) (idLen * r .held) id;
+      kinds = set (r .kinds) (r .held) kind;
+      signers = set (r .signers) (r .held) signer;
+      ballots = set (r .ballots) (r .held) ballot;
+      previous = set (r .previous) (r .held) previous;
+      counts = set (r .counts) (r .held) count;
+      references = references;
       known = set (r .known) (r .held) known;
       recent = set (r .recent) (r .held) 0;
     }
 
--- "A message awaiting return becomes known only when delivered": it keeps its place
-abbrev pub returned : Round → ℕ → Round
-returned r p =
-    record {
-      graph = r .graph;
-      house = r .house;
-      bay = r .bay;
-      own = r .own;
-      held = r .held;
-      last = r .last;
-      ids = r .ids;
-      kinds = r .kinds;
-      signers = r .signers;
-      ballots = r .ballots;
-      previous = r .previous;
-      counts = r .counts;
-      references = r .references;
-      known = set (r .known) p 1;
-      recent = r .recent;
-    }
-
--- recent and last sent, anew
-abbrev pub withRecent : Round → ℕ → List ℕ → Round
-withRecent r last recent =
+-- last sent, the known ones and the recent ones, anew; the messages are as they were
+abbrev pub withMarks : Round → ℕ → List ℕ → List ℕ → Round
+withMarks r last known recent =
     record {
       graph = r .graph;
       house = r .house;
@@ -110,9 +71,22 @@ withRecent r last recent =
       previous = r .previous;
       counts = r .counts;
       references = r .references;
-      known = r .known;
+      known = known;
       recent = recent;
     }
+
+-- a record put behind the held ones; known is 1 or 0. Only what it needs is written.
+unfoldable pub hold : Round → Held → ℕ → Round
+hold r (offers i s b) known = withRow r (r .references) i proposalKind s b noPlace 0 known
+hold r (says i s p places) known = withRow r (putAt (r .references) (maxHeld * r .held) places) i acceptorKind s 0 (previousPlace r p) (length places) known
+
+-- "A message awaiting return becomes known only when delivered": it keeps its place
+abbrev pub returned : Round → ℕ → Round
+returned r p = withMarks r (r .last) (set (r .known) p 1) (r .recent)
+
+-- recent and last sent, anew
+abbrev pub withRecent : Round → ℕ → List ℕ → Round
+withRecent r last recent = withMarks r last (r .known) recent
 
 -- recent, with the message at place p "unless it is a proposal"
 abbrev pub recentWith : Round → ℕ → List ℕ
@@ -157,7 +131,7 @@ module _ (H : List ℕ → Id) where
   answered r p z = pick (isSent r (messageOf r (replyRecord r (H z) p))) (sent r p z) (joins r p)
 
   unfoldable pub processed : Round → ℕ → Result
-  processed r p = pick (votes r) (answered r p (replyBytes r p)) (record { outcome = outcome.Accepted; round = r; reply = [] })
+  processed r p = pick (isVoting r) (answered r p (replyBytes r p)) (record { outcome = outcome.Accepted; round = r; reply = [] })
 
   -- ---- an accepted message becomes known: at the place where it awaited its return, or behind the others
   abbrev pub entered : Round → Held → Option ℕ → Result

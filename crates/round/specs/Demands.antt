@@ -31,7 +31,7 @@ use Rattle.round.specs.declared.Report.{Report}
 use Rattle.round.specs.declared.Report.the-variants as answer
 use Rattle.round.specs.declared.Report.the-variants.{Decided, Split}
 use Rattle.round.specs.Limits.{maxHeld, noPlace, listening}
-use Rattle.round.specs.Held.{graphOf, idAt, named, isProposalAt, referencesAt, isRecent, tableOf, knownPlaces}
+use Rattle.round.specs.Holdings.{graphOf, idAt, named, isProposalAt, referencesAt, isRecent, tableOf, knownPlaces}
 use Rattle.round.specs.Handed.{fits}
 use Rattle.round.specs.Opening.{opened}
 use Rattle.round.specs.Rows.{referenceIds, previousId, otherRound, foreign, isKnownId, lacks, unchained, voteRecord, messageOf, malformed1b, malformed2a, full, proposalRows, acceptorRows, firstOf}

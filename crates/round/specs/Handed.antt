@@ -8,10 +8,10 @@ use lib.ListN.{getD}
 use Rattle.base.specs.Tests.{all, below}
 use Rattle.graph.specs.declared.Graph.{Graph}
 use Rattle.graph.specs.Limits.{maxAcceptors, maxLearners, maxMasks, lists}
-use Rattle.graph.specs.Held.{triangle}
+use Rattle.graph.specs.Memory.{triangle}
 use Rattle.round.specs.Round.{Round}
 use Rattle.round.specs.Limits.{maxHeld, noPlace}
-use Rattle.round.specs.Held.{votes, isProposalAt, referencesAt}
+use Rattle.round.specs.Holdings.{isVoting, isProposalAt, referencesAt}
 
 -- ---- the graph's counts: acceptors 1 to 16, learners 1 to 8, and for each list in use at most eight masks
 abbrev pub inUse : ℕ → ℕ → Bool
@@ -25,7 +25,7 @@ graphFits g = leb 1 (g .acceptors) && leb (g .acceptors) maxAcceptors && leb 1 (
 
 -- ---- the own acceptor number is in the graph, where there is one
 unfoldable pub ownFits : Round → Bool
-ownFits r = not (votes r) || ltb (r .own) (r .graph .acceptors)
+ownFits r = not (isVoting r) || ltb (r .own) (r .graph .acceptors)
 
 -- ---- a place is none, or that of a held message
 abbrev pub placeFits : Round → ℕ → Bool

@@ -3,7 +3,7 @@ pub mod Limits
 -- A round
 pub mod Round
 -- What a round holds: the table of its messages, the known ones, the recent ones
-pub mod Held
+pub mod Holdings
 -- Row 17: what is asked of a round handed in
 pub mod Handed
 -- Opening a round

@@ -1,5 +1,6 @@
 -- The numbers that a round is built with.
 use Prim.Native.Nat.{ℕ}
+use Rattle.message.specs.Layout.{mostBytes}
 
 -- "It holds up to 128 messages."
 abbrev pub maxHeld : ℕ
@@ -19,4 +20,4 @@ listening = 256
 
 -- "reply buffer under 4,139 bytes": as long as the longest message
 abbrev pub replyLen : ℕ
-replyLen = 4139
+replyLen = mostBytes

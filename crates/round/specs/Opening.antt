@@ -11,7 +11,7 @@ use Rattle.graph.specs.declared.Answer.{Answer}
 use Rattle.graph.specs.declared.Answer.the-variants.{Accepted, Refused}
 use Rattle.graph.specs.declared.Graph.{Graph}
 use Rattle.graphfile.specs.declared.Reading.{Reading}
-use Rattle.graphfile.specs.Held.{readingOf, graphOfHeld, nothing}
+use Rattle.graphfile.specs.Arrays.{readingOf, graphOfHeld, nothing}
 use Rattle.message.specs.Layout.{idLen}
 use Rattle.round.specs.Round.{Round}
 use Rattle.round.specs.declared.Opening.{Opening}

@@ -8,7 +8,7 @@ use Rattle.protocol.specs.Report.{Verdict, undecided, decided, split, report}
 use Rattle.round.specs.Round.{Round}
 use Rattle.round.specs.declared.Report.{Report}
 use Rattle.round.specs.declared.Report.the-variants as answer
-use Rattle.round.specs.Held.{graphOf, knownMessages}
+use Rattle.round.specs.Holdings.{graphOf, knownMessages}
 use Rattle.round.specs.Handed.{fits}
 
 abbrev pub told : Verdict → Report

@@ -17,7 +17,7 @@ use Rattle.protocol.specs.WellFormed.{formed1b, formed2a}
 use Rattle.protocol.specs.Table.{Held, says, nodeBy, tree}
 use Rattle.round.specs.Round.{Round}
 use Rattle.round.specs.Limits.{maxHeld, acceptorRoom}
-use Rattle.round.specs.Held.{graphOf, votes, isProposalAt, signerAt, tableOf, isKnown, placeOf}
+use Rattle.round.specs.Holdings.{graphOf, isVoting, isProposalAt, signerAt, tableOf, isKnown, placeOf}
 
 -- ---- what the bytes b of an acceptor message name: n ids, one behind the other, from `at` on
 unfoldable pub idsFrom : ℕ → List ℕ → ℕ → List Id
@@ -89,7 +89,7 @@ module _ (r : Round) where
 
   -- ---- row 16: "full: 128 held; for an acceptor 127, or 128 for its own message returning"
   abbrev pub room : Id → ℕ
-  room i = pick (votes r && not (isAwaited i)) acceptorRoom maxHeld
+  room i = pick (isVoting r && not (isAwaited i)) acceptorRoom maxHeld
 
   abbrev pub full : Id → Bool
   full i = leb (room i) (r .held)

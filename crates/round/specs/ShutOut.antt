@@ -26,7 +26,7 @@ use Rattle.round.specs.Round.{Round}
 use Rattle.round.specs.declared.Outcome.the-variants as outcome
 use Rattle.round.specs.declared.Report.the-variants.{Undecided}
 use Rattle.round.specs.Limits.{acceptorRoom, replyLen}
-use Rattle.round.specs.Held.{graphOf, votes, isProposalAt, knownMessages, placeOf}
+use Rattle.round.specs.Holdings.{graphOf, isVoting, isProposalAt, knownMessages, placeOf}
 use Rattle.round.specs.Handed.{fits}
 use Rattle.round.specs.Rows.{referenceIds, previousId, isKnownId, isAwaited, lacks, unchained, voteRecord, messageOf, room}
 use Rattle.round.specs.Delivery.{delivered, replied}
@@ -72,7 +72,7 @@ AcceptedIsKnown = (H : List ℕ → Id) → IdRule H → (r : Round) → Typed r
 -- ---- "an acceptor that votes on its first message and is mute later"
 -- whatever it sent before, it answers each new proposal whose ballot is above those of the proposals it holds
 abbrev pub NewBallotAnswered : Type 0
-NewBallotAnswered = (H : List ℕ → Id) → IdRule H → (r : Round) → Typed r → T (votes r) → (b buffer : List ℕ) (f : Proposal) → Handed r buffer → reading b ≡ OfProposer f
+NewBallotAnswered = (H : List ℕ → Id) → IdRule H → (r : Round) → Typed r → T (isVoting r) → (b buffer : List ℕ) (f : Proposal) → Handed r buffer → reading b ≡ OfProposer f
     → f .house ≡ r .house → f .bay ≡ r .bay → placeOf r (H b) ≡ none → r .held < acceptorRoom → 0 < f .ballot
     → ((q : ℕ) → q < r .held → T (isProposalAt r q) → getD (r .ballots) q 0 < f .ballot)
     → (n : ℕ) × (delivered H r b buffer .outcome ≡ outcome.Replied n)
@@ -88,7 +88,7 @@ ReplyLength = (H : List ℕ → Id) → IdRule H → (r : Round) → Typed r →
 -- "full: 128 held; for an acceptor 127, or 128 for its own message returning"
 abbrev pub FullOnly : Type 0
 FullOnly = (H : List ℕ → Id) (r : Round) (b buffer : List ℕ) → delivered H r b buffer .outcome ≡ outcome.Refused Full
-    → (127 ≤ r .held) × ((T (votes r) → ⊥) ⊎ T (isAwaited r (H b)) → 128 ≤ r .held)
+    → (127 ≤ r .held) × ((T (isVoting r) → ⊥) ⊎ T (isAwaited r (H b)) → 128 ≤ r .held)
 
 -- and nothing is accepted into a round that is full
 abbrev pub RoomFound : Type 0

@@ -4,6 +4,12 @@ use base::refusal::Refusal;
 // How many messages a round holds.
 pub const MAX_HELD: usize = 128;
 
+// Stands for no place: of a message that names no previous one, and where none was sent.
+pub const NO_PLACE: u8 = 255;
+
+// An acceptor number is one byte; a number from here on stands for none, listening only.
+pub const LISTENING: u16 = 256;
+
 // What an opening answers.
 pub enum Opening {
     Opened,

@@ -8,9 +8,9 @@ use Rattle.digest.specs.Constants.{constants}
 use Rattle.digest.specs.Preprocessing.{padding, padded, words}
 use Rattle.digest.specs.Sha256.{nextWord, extended, schedule, T₁, T₂, round, rounds, added, compressed, hash, joined, sha256}
 use Rattle.graph.specs.LearnerGraph.{isQuorum, isSafe, safeWithout, common, validAt, valid, condensedAt, condensed}
-use Rattle.graphfile.specs.File.{last, readMasks, readList, readLists, readRows, readGraph, contents, graphOf}
-use Rattle.graph.specs.Held.{triangle, pairList, listOf}
-use Rattle.graphfile.specs.Held.{holdAll, holdRows, heldOf}
+use Rattle.graphfile.specs.File.{last, readMasks, readList, readLists, readRows, readGraph, contents, graphSaid}
+use Rattle.graph.specs.Memory.{triangle, pairList, listOf}
+use Rattle.graphfile.specs.Arrays.{holdAll, holdRows, heldOf}
 use Rattle.message.specs.Order.{before, ascending}
 use Rattle.protocol.specs.Ids.{sameId, samePrevious}
 use Rattle.protocol.specs.Message.{listed, idOf, signer, previous, references, isProposal, proposed, is1b, is2a, signers, tran, trans, largest, ballot, value, forks, caughtIn, caught}
@@ -18,15 +18,15 @@ use Rattle.protocol.specs.Learners.{con, buriesBy, buriedBy, standsBy, con2aBy,
 use Rattle.protocol.specs.WellFormed.{isPrevious, linked, chained, alone, formed1b, formed2a}
 use Rattle.protocol.specs.Report as protocolReport
 use Rattle.protocol.specs.Table.{at, tabulate, gather, nodeBy, treeIn, tree, messages}
-use Rattle.round.specs.Held.{lowest, placeOf}
+use Rattle.round.specs.Holdings.{lowest, placeOf}
 use Rattle.round.specs.Handed.{listFits, graphFits, ownFits, refersBack, messageFits, fits}
 use Rattle.round.specs.Opening.{opened}
 use Rattle.round.specs.Rows.{idsFrom, lacks, unchained, proposalRows, acceptorRows, firstOf}
 use Rattle.round.specs.Reply as reply
 use Rattle.round.specs.Delivery.{delivery, processed, hold}
 use Rattle.round.specs.Report.{reported}
-use Rattle.round_cases.specs.Cases.{G0, four, thirds, G1, notValid, notCondensed, proposalFor, P, buffer, inOrder, start, deliver, sample1, z1, sample2, z2, sample3, vote, heard, heard2, bit, reportNumber, decidedValue, is, cases, asExpected}
+use Rattle.round_cases.specs.Cases.{G0, four, thirds, G1, notValid, notCondensed, proposalFor, P, buffer, inOrder, start, deliver, sample1, z1, sample2, z2, sample3, vote, heard, heard2, bit, reportCase, decidedValue, is, cases, asExpected}
 
 pub casesHold : T (all asExpected cases)
-unfolding overrides ownVote sameValue G0 four thirds G1 notValid notCondensed proposalFor P buffer inOrder start deliver sample1 z1 sample2 z2 sample3 vote heard heard2 bit reportNumber decidedValue is cases asExpected any all filter below has contains apart be bytes isQuorum isSafe safeWithout common validAt valid condensedAt condensed last readMasks readList readLists readRows readGraph contents graphOf triangle pairList listOf holdAll holdRows heldOf before ascending sameId samePrevious listed idOf signer previous references isProposal proposed is1b is2a signers tran trans largest ballot valueOf value forks caughtIn caught con buriesBy buriedBy standsBy con2aBy con2asBy freshBy backsBy backersBy lrnsBy height heights lrnsIn lrns isPrevious linked chained alone formed1b formed2a at tabulate gather nodeBy treeIn tree lowest placeOf listFits graphFits ownFits refersBack messageFits fits idsFrom lacks unchained proposalRows acceptorRows firstOf delivery processed hold opened constants padding padded words nextWord extended schedule T₁ T₂ round rounds added compressed hash sha256 joined protocolReport.votes protocolReport.decides protocolReport.deciding protocolReport.least protocolReport.others protocolReport.against protocolReport.verdict protocolReport.report messages reported reply.chosen reply.insert reply.chosenOf reply.joined reply.replyBytes reply.isSent
+unfolding overrides ownVote sameValue G0 four thirds G1 notValid notCondensed proposalFor P buffer inOrder start deliver sample1 z1 sample2 z2 sample3 vote heard heard2 bit reportCase decidedValue is cases asExpected any all filter below has contains apart be bytes isQuorum isSafe safeWithout common validAt valid condensedAt condensed last readMasks readList readLists readRows readGraph contents graphSaid triangle pairList listOf holdAll holdRows heldOf before ascending sameId samePrevious listed idOf signer previous references isProposal proposed is1b is2a signers tran trans largest ballot valueOf value forks caughtIn caught con buriesBy buriedBy standsBy con2aBy con2asBy freshBy backsBy backersBy lrnsBy height heights lrnsIn lrns isPrevious linked chained alone formed1b formed2a at tabulate gather nodeBy treeIn tree lowest placeOf listFits graphFits ownFits refersBack messageFits fits idsFrom lacks unchained proposalRows acceptorRows firstOf delivery processed hold opened constants padding padded words nextWord extended schedule T₁ T₂ round rounds added compressed hash sha256 joined protocolReport.votes protocolReport.decides protocolReport.deciding protocolReport.least protocolReport.others protocolReport.against protocolReport.verdict protocolReport.report messages reported reply.chosen reply.insert reply.chosenOf reply.joined reply.replyBytes reply.isSent
 casesHold = tt

@@ -12,9 +12,9 @@ use Rattle.base.specs.Sets.{has, contains, apart}
 use Rattle.base.specs.Bytes.{be, bytes}
 use Rattle.base.specs.Ballots.{valueOf}
 use Rattle.graph.specs.LearnerGraph.{isQuorum, isSafe, safeWithout, common, validAt, valid, condensedAt, condensed}
-use Rattle.graphfile.specs.File.{last, readMasks, readList, readLists, readRows, readGraph, contents, graphOf}
-use Rattle.graph.specs.Held.{triangle, pairList, listOf}
-use Rattle.graphfile.specs.Held.{holdAll, holdRows, heldOf}
+use Rattle.graphfile.specs.File.{last, readMasks, readList, readLists, readRows, readGraph, contents, graphSaid}
+use Rattle.graph.specs.Memory.{triangle, pairList, listOf}
+use Rattle.graphfile.specs.Arrays.{holdAll, holdRows, heldOf}
 use Rattle.message.specs.Layout.{ballotAt, proposalLen, previousAt, idLen, acceptorLen}
 use Rattle.message.specs.Writer.{acceptorBytes}
 use Rattle.message.specs.Order.{before, ascending}
@@ -25,7 +25,7 @@ use Rattle.protocol.specs.WellFormed.{isPrevious, linked, chained, alone, forme
 use Rattle.protocol.specs.Table.{at, tabulate, gather, nodeBy, treeIn, tree}
 use Rattle.protocol.specs.November.{prevTran, inPrevTran, unconnected, caughtNovember}
 use Rattle.round.specs.Round.{Round}
-use Rattle.round.specs.Held.{lowest, placeOf, tableOf}
+use Rattle.round.specs.Holdings.{lowest, placeOf, tableOf}
 use Rattle.round.specs.Handed.{listFits, graphFits, ownFits, refersBack, messageFits, fits}
 use Rattle.round.specs.Opening.{opened}
 use Rattle.round.specs.Rows.{idsFrom, lacks, unchained, proposalRows, acceptorRows, firstOf}
@@ -77,7 +77,7 @@ unfoldable end : Round
 end = lastRound H (start G1 0) calls
 
 computed : T (ltb 8 (end .held)) × T (caughtNovember (tree (tableOf end) 8) 0) × T (not (caught (tree (tableOf end) 8) 0))
-unfolding ofProposal ofVote number H z₁ vote₁ calls end lastRound overrides ownVote sameValue four thirds G1 proposalFor buffer start any all filter below has contains apart be bytes isQuorum isSafe safeWithout common validAt valid condensedAt condensed last readMasks readList readLists readRows readGraph contents graphOf triangle pairList listOf holdAll holdRows heldOf before ascending sameId samePrevious listed idOf signer previous references isProposal proposed is1b is2a signers tran trans largest ballot valueOf value forks caughtIn caught prevTran inPrevTran unconnected caughtNovember con buriesBy buriedBy standsBy con2aBy con2asBy freshBy backsBy backersBy lrnsBy height heights lrnsIn lrns isPrevious linked chained alone formed1b formed2a at tabulate gather nodeBy treeIn tree lowest placeOf listFits graphFits ownFits refersBack messageFits fits idsFrom lacks unchained proposalRows acceptorRows firstOf delivery processed hold opened reply.chosen reply.insert reply.chosenOf reply.joined reply.replyBytes reply.isSent
+unfolding ofProposal ofVote number H z₁ vote₁ calls end lastRound overrides ownVote sameValue four thirds G1 proposalFor buffer start any all filter below has contains apart be bytes isQuorum isSafe safeWithout common validAt valid condensedAt condensed last readMasks readList readLists readRows readGraph contents graphSaid triangle pairList listOf holdAll holdRows heldOf before ascending sameId samePrevious listed idOf signer previous references isProposal proposed is1b is2a signers tran trans largest ballot valueOf value forks caughtIn caught prevTran inPrevTran unconnected caughtNovember con buriesBy buriedBy standsBy con2aBy con2asBy freshBy backsBy backersBy lrnsBy height heights lrnsIn lrns isPrevious linked chained alone formed1b formed2a at tabulate gather nodeBy treeIn tree lowest placeOf listFits graphFits ownFits refersBack messageFits fits idsFrom lacks unchained proposalRows acceptorRows firstOf delivery processed hold opened reply.chosen reply.insert reply.chosenOf reply.joined reply.replyBytes reply.isSent
 computed = (tt, tt, tt)
 
 -- ---- the rule gives 32 bytes
@@ -120,7 +120,7 @@ WithoutPremise = (H : List ℕ → Id) → IdRule H → (file : List ℕ) (house
     → (l : List Call) → SameCaughtIn (lastRound H r l)
 
 opens : opened G1 1 12 0 .answer ≡ Opened
-unfolding four thirds G1 any all below has contains apart be isQuorum isSafe safeWithout common validAt valid condensedAt condensed last readMasks readList readLists readRows readGraph contents graphOf triangle pairList listOf holdAll holdRows heldOf opened
+unfolding four thirds G1 any all below has contains apart be isQuorum isSafe safeWithout common validAt valid condensedAt condensed last readMasks readList readLists readRows readGraph contents graphSaid triangle pairList listOf holdAll holdRows heldOf opened
 opens = refl
 
 pub premise-needed : WithoutPremise → ⊥

@@ -22,7 +22,7 @@ use Rattle.round.specs.declared.Outcome.the-variants as outcome
 use Rattle.round.specs.declared.Report.{Report}
 use Rattle.round.specs.declared.Report.the-variants as answer
 use Rattle.round.specs.Limits.{replyLen}
-use Rattle.round.specs.Held.{graphOf, tableOf}
+use Rattle.round.specs.Holdings.{graphOf, tableOf}
 use Rattle.round.specs.Opening.{opened}
 use Rattle.round.specs.Delivery.{Result, delivery}
 use Rattle.round.specs.Report.{reported}
@@ -115,11 +115,11 @@ heard2 file = deliver (heard file) z1 .round
 unfoldable pub bit : Bool → ℕ
 bit b = pick b 1 0
 
-unfoldable pub reportNumber : Report → ℕ
-reportNumber answer.Undecided = 0
-reportNumber (answer.Decided x) = 1
-reportNumber (answer.Split x y) = 2
-reportNumber (answer.Refused e) = numberOf e
+unfoldable pub reportCase : Report → ℕ
+reportCase answer.Undecided = 0
+reportCase (answer.Decided x) = 1
+reportCase (answer.Split x y) = 2
+reportCase (answer.Refused e) = numberOf e
 
 unfoldable pub decidedValue : Report → ℕ
 decidedValue (answer.Decided x) = valueOf x
@@ -154,8 +154,8 @@ cases =
     ∷ is (bit (is2a (tree (tableOf (sample2 .round)) 2))) 1
     ∷ is (bit (lrns (graphOf (sample2 .round)) (tree (tableOf (sample2 .round)) 2) 0)) 1
     -- "The report after P and z1 is undecided; after z2 it is decided, value 70."
-    ∷ is (reportNumber (reported (sample2 .round) 0)) 0
-    ∷ is (reportNumber (reported (sample3 .round) 0)) 1
+    ∷ is (reportCase (reported (sample2 .round) 0)) 0
+    ∷ is (reportCase (reported (sample3 .round) 0)) 1
     ∷ is (decidedValue (reported (sample3 .round) 0)) 70
     -- "A proposal with round number 3 then gives no reply. z1 again is 10."
     ∷ is (outcomeNumber (deliver (sample3 .round) (proposalFor 1 3) .outcome)) 0

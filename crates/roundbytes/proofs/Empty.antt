@@ -13,6 +13,8 @@ use Rattle.message.specs.Writer.{fronted}
 use Rattle.round.specs.Opening.{emptyRound}
 use Rattle.roundbytes.specs.Layout.{houseAt, idsAt, roundLen, words, graphBytes, numberBytes, roundBytes}
 use Rattle.roundbytes.proofs.RoundBytes.{long, graph-long, numbers-long}
+use Rattle.round.specs.Limits.{maxHeld}
+use Rattle.message.specs.Layout.{idLen}
 
 eight-zeros : bytes 8 0 ≡ replicate 8 0
 unfolding bytes
@@ -45,7 +47,7 @@ columns p w a b c d e f g h k z =
 
 empty-bytes : (g : Graph) (house bay own last : ℕ)
     → roundBytes (emptyRound g house bay own last) ≡ graphBytes g ++ numberBytes house bay own 0 last ++ replicate (roundLen - idsAt) 0
-empty-bytes g house bay own last = columns (graphBytes g ++ numberBytes house bay own 0 last) (words 8 (replicate 128 0)) 4096 128 128 1024 128 128 16384 128 128 (words-zeros 128)
+empty-bytes g house bay own last = columns (graphBytes g ++ numberBytes house bay own 0 last) (words 8 (replicate maxHeld 0)) (idLen * maxHeld) maxHeld maxHeld 1024 maxHeld maxHeld (maxHeld * maxHeld) maxHeld maxHeld (words-zeros maxHeld)
 
 -- the three parts that the writer puts in, one behind the other, are the round
 pub empty-written : (g : Graph) (house bay own last : ℕ) (b m₁ m₂ m₃ : List ℕ) → length (g .counts) ≡ lists → length (g .masks) ≡ maxMasks * lists
@@ -56,8 +58,8 @@ empty-written g house bay own last b m₁ m₂ m₃ h k e₁ e₂ e₃ =
     let n = numberBytes house bay own 0 last in
     let z : List ℕ = replicate (roundLen - idsAt) 0 in
     let lx = graph-long g h k in
-    let ln = long x n 1454 8 lx (numbers-long house bay own 0 last) in
-    let f₂ = putAt-more b m₁ m₂ x n 0 1454 (omega arith) (zero-add (length x) ∙ lx) e₁ e₂ in
-    let f₃ = putAt-more b m₂ m₃ (x ++ n) z 0 1462 (omega arith) (zero-add (length (x ++ n)) ∙ ln) f₂ e₃ in
+    let ln = long x n houseAt 8 lx (numbers-long house bay own 0 last) in
+    let f₂ = putAt-more b m₁ m₂ x n 0 houseAt (omega arith) (zero-add (length x) ∙ lx) e₁ e₂ in
+    let f₃ = putAt-more b m₂ m₃ (x ++ n) z 0 idsAt (omega arith) (zero-add (length (x ++ n)) ∙ ln) f₂ e₃ in
     f₃ ∙ ap (λ (y : List ℕ). putAt b 0 y) (sym (empty-bytes g house bay own last))
     ∙ ap (λ (y : ℕ). roundBytes (emptyRound g house bay own last) ++ drop y b) (zero-add (length (roundBytes (emptyRound g house bay own last))))

@@ -1,14 +1,19 @@
 -- Where each field of the round in bytes stands. What is said of a round in bytes elsewhere cites these laws.
-use mathlib.Core.Path.{_≡_, refl, ap, _∙_}
-use mathlib.Core.List.{List}
-use Prim.Native.Nat.{ℕ, _+_, _*_, _<_}
-use lib.ListN.{getD}
+use mathlib.Core.Path.{_≡_, refl, ap, sym, _∙_}
+use mathlib.Core.List.{List, [], _∷_}
+use Prim.Native.Nat.{ℕ, zero, suc, _+_, _*_, _≤_, _<_}
+use native.Mathlib.Decide.{decLt}
+use native.Mathlib.Omega.{arith}
+use lib.ListN.{length, getD, List·getD-append}
+use lib.Seq.{getD-at}
 use Rattle.base.specs.Bytes.{be, part}
-use Rattle.base.proofs.Cuts.{getD-part}
+use Rattle.base.proofs.Cuts.{getD-part, part-part}
 use Rattle.graph.specs.Limits.{lists, maxMasks}
 use Rattle.message.specs.Layout.{idLen}
+use Rattle.round.specs.Holdings.{idAt}
 use Rattle.round.specs.Limits.{maxHeld}
-use Rattle.roundbytes.specs.Layout.{listCountsAt, masksAt, houseAt, bayAt, ownAt, heldAt, lastAt, idsAt, kindsAt, signersAt, ballotsAt, previousAt, countsAt, referencesAt, knownAt, recentAt, numbers, graphIn, roundIn}
+use Rattle.roundbytes.specs.Layout.{listCountsAt, masksAt, houseAt, bayAt, ownAt, heldAt, lastAt, idsAt, kindsAt, signersAt, ballotsAt, previousAt, countsAt, referencesAt, knownAt, recentAt, roundLen, numbers, graphIn, roundIn}
+use Rattle.roundbytes.proofs.Typing.{numbers-length}
 
 pub graph-in : (b : List ℕ) → roundIn b .graph ≡ graphIn b
 unfolding roundIn
@@ -110,3 +115,30 @@ recent-at b p h = ap (λ (l : List ℕ). getD l p 0) (recent-in b) ∙ getD-part
 
 pub reference-at : (b : List ℕ) (p : ℕ) → p < maxHeld * maxHeld → getD (roundIn b .references) p 0 ≡ getD b (referencesAt + p) 0
 reference-at b p h = ap (λ (l : List ℕ). getD l p 0) (references-in b) ∙ getD-part (maxHeld * maxHeld) b referencesAt p h
+
+-- the bytes of the ids, and the id of a place
+pub id-byte-at : (b : List ℕ) (p : ℕ) → p < idLen * maxHeld → getD (roundIn b .ids) p 0 ≡ getD b (idsAt + p) 0
+id-byte-at b p h = ap (λ (l : List ℕ). getD l p 0) (ids-in b) ∙ getD-part (idLen * maxHeld) b idsAt p h
+
+-- the i-th of n numbers
+numbers-at : (w n : ℕ) (s : List ℕ) (at i : ℕ) → i < n → getD (numbers w n s at) i 0 ≡ be w s (at + w * i)
+unfolding numbers
+numbers-at w zero s at i h = absurd (omega arith)
+numbers-at w (suc n) s at i h = step (λ l. numbers-at w n s at i l) (decLt i n)
+  where
+    front : List ℕ
+    front = numbers w n s at
+
+    step : (i < n → getD front i 0 ≡ be w s (at + w * i)) → Dec (i < n) → getD (numbers w (suc n) s at) i 0 ≡ be w s (at + w * i)
+    step old (yes l) = List·getD-append front (be w s (at + w * n) ∷ []) 0 i (omega (arith, numbers-length w n s at)) ∙ old l
+    step old (no l) = let e : n ≡ i = omega arith in getD-at front (be w s (at + w * n)) [] 0 i (numbers-length w n s at ∙ e) ∙ ap (λ (k : ℕ). be w s (at + w * k)) e
+
+pub ballot-at : (b : List ℕ) (p : ℕ) → p < maxHeld → getD (roundIn b .ballots) p 0 ≡ be 8 b (ballotsAt + 8 * p)
+ballot-at b p h = ap (λ (l : List ℕ). getD l p 0) (ballots-in b) ∙ numbers-at 8 maxHeld b ballotsAt p h
+
+-- ---- the id of a place stands in the round's bytes, whole
+pub id-within : (b : List ℕ) (p : ℕ) → roundLen ≤ length b → p < maxHeld → idsAt + idLen * p + idLen ≤ length b
+id-within b p n h = omega arith
+
+pub id-at : (b : List ℕ) (p : ℕ) → roundLen ≤ length b → p < maxHeld → part idLen b (idsAt + idLen * p) ≡ idAt (roundIn b) p
+id-at b p n h = sym (ap (λ (l : List ℕ). part idLen l (idLen * p)) (ids-in b) ∙ part-part idLen (idLen * maxHeld) b idsAt (idLen * p) (omega arith) (omega arith))

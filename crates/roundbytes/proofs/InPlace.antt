@@ -11,8 +11,11 @@ use Rattle.base.specs.Bytes.{be, bytes, part, putAt}
 use Rattle.base.proofs.Bytes.{bytes-length, be-at, be-bytes}
 use Rattle.base.proofs.Cuts.{part-put-front, length-put, drop-behind, put-one, cut, start, into, oneInto, cut-put, cut-set, getD-part, part-part}
 use Rattle.round.specs.Round.{Round}
-use Rattle.roundbytes.specs.Layout.{numbers, graphIn, roundIn, roundLen, Kept}
+use Rattle.roundbytes.specs.Layout.{numbers, graphIn, roundIn, roundLen, Kept, houseAt, bayAt, ownAt, heldAt, lastAt, ballotsAt, masksAt}
 use Rattle.roundbytes.proofs.Typing.{numbers-length}
+use Rattle.graph.specs.Limits.{lists, maxMasks}
+use Rattle.round.specs.Limits.{maxHeld}
+use Rattle.message.specs.Layout.{idLen}
 
 -- ---- what is read in a part
 be-part : (w n : ℕ) (s : List ℕ) (f at : ℕ) → at + w ≤ n → be w (part n s f) at ≡ be w s (f + at)
@@ -73,7 +76,7 @@ module _ (l : List ℕ) (i x : ℕ) (fit : x < 256 ^ 8) where
 
 -- ---- a round, of its parts: what stands in front of the count of held messages, that count, the last sent, and the columns
 abbrev pub widths : List ℕ
-widths = 1460 ∷ 1 ∷ 1 ∷ 4096 ∷ 128 ∷ 128 ∷ 1024 ∷ 128 ∷ 128 ∷ 16384 ∷ 128 ∷ 128 ∷ []
+widths = heldAt ∷ 1 ∷ 1 ∷ (idLen * maxHeld) ∷ maxHeld ∷ maxHeld ∷ 1024 ∷ maxHeld ∷ maxHeld ∷ (maxHeld * maxHeld) ∷ maxHeld ∷ maxHeld ∷ []
 
 abbrev pub parts : List ℕ → List (List ℕ)
 parts s = cut widths s 0
@@ -82,15 +85,15 @@ abbrev pub roundOf : List (List ℕ) → Round
 roundOf l =
     record {
       graph = graphIn (getD l 0 []);
-      house = be 2 (getD l 0 []) 1454;
-      bay = be 2 (getD l 0 []) 1456;
-      own = be 2 (getD l 0 []) 1458;
+      house = be 2 (getD l 0 []) houseAt;
+      bay = be 2 (getD l 0 []) bayAt;
+      own = be 2 (getD l 0 []) ownAt;
       held = getD (getD l 1 []) 0 0;
       last = getD (getD l 2 []) 0 0;
       ids = getD l 3 [];
       kinds = getD l 4 [];
       signers = getD l 5 [];
-      ballots = numbers 8 128 (getD l 6 []) 0;
+      ballots = numbers 8 maxHeld (getD l 6 []) 0;
       previous = getD l 7 [];
       counts = getD l 8 [];
       references = getD l 9 [];
@@ -101,16 +104,16 @@ roundOf l =
 pub of-parts : (s : List ℕ) → roundLen ≤ length s → roundOf (parts s) ≡ roundIn s
 unfolding roundIn
 of-parts s h =
-    let acceptors = getD-part 1460 s 0 0 (omega arith) in
-    let learners = getD-part 1460 s 0 1 (omega arith) in
-    let counts = part-part 44 1460 s 0 2 (omega arith) (omega arith) in
-    let masks = numbers-part 4 352 1460 s 0 46 (omega arith) in
-    let house = be-part 2 1460 s 0 1454 (omega arith) in
-    let bay = be-part 2 1460 s 0 1456 (omega arith) in
-    let own = be-part 2 1460 s 0 1458 (omega arith) in
-    let held = getD-part 1 s 1460 0 (omega arith) in
-    let last = getD-part 1 s 1461 0 (omega arith) in
-    let ballots = numbers-part 8 128 1024 s 5814 0 (omega arith) in
+    let acceptors = getD-part heldAt s 0 0 (omega arith) in
+    let learners = getD-part heldAt s 0 1 (omega arith) in
+    let counts = part-part lists heldAt s 0 2 (omega arith) (omega arith) in
+    let masks = numbers-part 4 (maxMasks * lists) heldAt s 0 masksAt (omega arith) in
+    let house = be-part 2 heldAt s 0 houseAt (omega arith) in
+    let bay = be-part 2 heldAt s 0 bayAt (omega arith) in
+    let own = be-part 2 heldAt s 0 ownAt (omega arith) in
+    let held = getD-part 1 s heldAt 0 (omega arith) in
+    let last = getD-part 1 s lastAt 0 (omega arith) in
+    let ballots = numbers-part 8 maxHeld 1024 s ballotsAt 0 (omega arith) in
     let r = roundIn s in
     λ i.
     record {

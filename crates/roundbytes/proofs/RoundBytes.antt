@@ -12,7 +12,9 @@ use Rattle.base.proofs.Bytes.{bytes-length, part-suc, part-add, be-at, be-bytes
 use Rattle.graph.specs.declared.Graph.{Graph}
 use Rattle.graph.specs.Limits.{lists, maxMasks}
 use Rattle.round.specs.Round.{Round}
-use Rattle.roundbytes.specs.Layout.{houseAt, words, numbers, graphBytes, numberBytes, roundBytes, graphIn, roundIn, Laid, RoundReadsBack, BytesWrittenBack}
+use Rattle.roundbytes.specs.Layout.{houseAt, words, numbers, graphBytes, numberBytes, roundBytes, graphIn, roundIn, Laid, RoundReadsBack, BytesWrittenBack, bayAt, ownAt, heldAt, lastAt, idsAt, kindsAt, signersAt, ballotsAt, previousAt, countsAt, referencesAt, knownAt, recentAt, masksAt}
+use Rattle.round.specs.Limits.{maxHeld}
+use Rattle.message.specs.Layout.{idLen}
 
 -- ---- numbers one behind the other
 pub words-append : (w : ℕ) (a b : List ℕ) → words w (a ++ b) ≡ words w a ++ words w b
@@ -35,7 +37,7 @@ long a b m n e f = length-append a b ∙ ap₂ _+_ e f
 
 pub graph-long : (g : Graph) → length (g .counts) ≡ lists → length (g .masks) ≡ maxMasks * lists → length (graphBytes g) ≡ houseAt
 graph-long g n m =
-    long ((g .acceptors ∷ g .learners ∷ []) ++ g .counts) (words 4 (g .masks)) 46 1408 (long (g .acceptors ∷ g .learners ∷ []) (g .counts) 2 44 refl n)
+    long ((g .acceptors ∷ g .learners ∷ []) ++ g .counts) (words 4 (g .masks)) masksAt (4 * (maxMasks * lists)) (long (g .acceptors ∷ g .learners ∷ []) (g .counts) 2 lists refl n)
     (words-length 4 (g .masks) ∙ ap (λ (k : ℕ). 4 * k) m)
 
 pub numbers-long : (house bay own held last : ℕ) → length (numberBytes house bay own held last) ≡ 8
@@ -63,24 +65,24 @@ pub bytes-written-back : BytesWrittenBack
 unfolding roundIn
 bytes-written-back s o h =
     let b₂ : (at : ℕ) → at + 2 ≤ length s → bytes 2 (be 2 s at) ≡ part 2 s at = λ at k. bytes-be 2 s at o k in
-    let g₁ = grow 0 2 44 s (getD s 0 0 ∷ getD s 1 0 ∷ []) (part 44 s 2) (two s 0 (omega arith)) refl in
-    let g = grow 0 46 1408 s ((getD s 0 0 ∷ getD s 1 0 ∷ []) ++ part 44 s 2) (words 4 (numbers 4 352 s 46)) g₁ (words-numbers 4 352 s 46 o (omega arith)) in
-    let n₁ = grow 1454 2 2 s (bytes 2 (be 2 s 1454)) (bytes 2 (be 2 s 1456)) (b₂ 1454 (omega arith)) (b₂ 1456 (omega arith)) in
-    let n₂ = grow 1454 4 2 s (bytes 2 (be 2 s 1454) ++ bytes 2 (be 2 s 1456)) (bytes 2 (be 2 s 1458)) n₁ (b₂ 1458 (omega arith)) in
-    let n₃ = grow 1454 6 2 s (bytes 2 (be 2 s 1454) ++ bytes 2 (be 2 s 1456) ++ bytes 2 (be 2 s 1458)) (getD s 1460 0 ∷ getD s 1461 0 ∷ []) n₂ (two s 1460 (omega arith)) in
+    let g₁ = grow 0 2 lists s (getD s 0 0 ∷ getD s 1 0 ∷ []) (part lists s 2) (two s 0 (omega arith)) refl in
+    let g = grow 0 masksAt (4 * (maxMasks * lists)) s ((getD s 0 0 ∷ getD s 1 0 ∷ []) ++ part lists s 2) (words 4 (numbers 4 (maxMasks * lists) s masksAt)) g₁ (words-numbers 4 (maxMasks * lists) s masksAt o (omega arith)) in
+    let n₁ = grow houseAt 2 2 s (bytes 2 (be 2 s houseAt)) (bytes 2 (be 2 s bayAt)) (b₂ houseAt (omega arith)) (b₂ bayAt (omega arith)) in
+    let n₂ = grow houseAt 4 2 s (bytes 2 (be 2 s houseAt) ++ bytes 2 (be 2 s bayAt)) (bytes 2 (be 2 s ownAt)) n₁ (b₂ ownAt (omega arith)) in
+    let n₃ = grow houseAt 6 2 s (bytes 2 (be 2 s houseAt) ++ bytes 2 (be 2 s bayAt) ++ bytes 2 (be 2 s ownAt)) (getD s heldAt 0 ∷ getD s lastAt 0 ∷ []) n₂ (two s heldAt (omega arith)) in
     let r = roundIn s in
     let x = graphBytes (graphIn s) in
     let n = numberBytes (r .house) (r .bay) (r .own) (r .held) (r .last) in
-    let e₁ = grow 0 1454 8 s x n g n₃ in
-    let e₂ = grow 0 1462 4096 s (x ++ n) (r .ids) e₁ refl in
-    let e₃ = grow 0 5558 128 s (x ++ n ++ r .ids) (r .kinds) e₂ refl in
-    let e₄ = grow 0 5686 128 s (x ++ n ++ r .ids ++ r .kinds) (r .signers) e₃ refl in
-    let e₅ = grow 0 5814 1024 s (x ++ n ++ r .ids ++ r .kinds ++ r .signers) (words 8 (r .ballots)) e₄ (words-numbers 8 128 s 5814 o (omega arith)) in
-    let e₆ = grow 0 6838 128 s (x ++ n ++ r .ids ++ r .kinds ++ r .signers ++ words 8 (r .ballots)) (r .previous) e₅ refl in
-    let e₇ = grow 0 6966 128 s (x ++ n ++ r .ids ++ r .kinds ++ r .signers ++ words 8 (r .ballots) ++ r .previous) (r .counts) e₆ refl in
-    let e₈ = grow 0 7094 16384 s (x ++ n ++ r .ids ++ r .kinds ++ r .signers ++ words 8 (r .ballots) ++ r .previous ++ r .counts) (r .references) e₇ refl in
-    let e₉ = grow 0 23478 128 s (x ++ n ++ r .ids ++ r .kinds ++ r .signers ++ words 8 (r .ballots) ++ r .previous ++ r .counts ++ r .references) (r .known) e₈ refl in
-    grow 0 23606 128 s (x ++ n ++ r .ids ++ r .kinds ++ r .signers ++ words 8 (r .ballots) ++ r .previous ++ r .counts ++ r .references ++ r .known) (r .recent) e₉ refl
+    let e₁ = grow 0 houseAt 8 s x n g n₃ in
+    let e₂ = grow 0 idsAt (idLen * maxHeld) s (x ++ n) (r .ids) e₁ refl in
+    let e₃ = grow 0 kindsAt maxHeld s (x ++ n ++ r .ids) (r .kinds) e₂ refl in
+    let e₄ = grow 0 signersAt maxHeld s (x ++ n ++ r .ids ++ r .kinds) (r .signers) e₃ refl in
+    let e₅ = grow 0 ballotsAt 1024 s (x ++ n ++ r .ids ++ r .kinds ++ r .signers) (words 8 (r .ballots)) e₄ (words-numbers 8 maxHeld s ballotsAt o (omega arith)) in
+    let e₆ = grow 0 previousAt maxHeld s (x ++ n ++ r .ids ++ r .kinds ++ r .signers ++ words 8 (r .ballots)) (r .previous) e₅ refl in
+    let e₇ = grow 0 countsAt maxHeld s (x ++ n ++ r .ids ++ r .kinds ++ r .signers ++ words 8 (r .ballots) ++ r .previous) (r .counts) e₆ refl in
+    let e₈ = grow 0 referencesAt (maxHeld * maxHeld) s (x ++ n ++ r .ids ++ r .kinds ++ r .signers ++ words 8 (r .ballots) ++ r .previous ++ r .counts) (r .references) e₇ refl in
+    let e₉ = grow 0 knownAt maxHeld s (x ++ n ++ r .ids ++ r .kinds ++ r .signers ++ words 8 (r .ballots) ++ r .previous ++ r .counts ++ r .references) (r .known) e₈ refl in
+    grow 0 recentAt maxHeld s (x ++ n ++ r .ids ++ r .kinds ++ r .signers ++ words 8 (r .ballots) ++ r .previous ++ r .counts ++ r .references ++ r .known) (r .recent) e₉ refl
 
 -- ---- a round that was written is read back
 -- what stands between p and t
@@ -202,35 +204,35 @@ module _ (r : Round) (t : List ℕ) (h : Laid r) where
   at-numbers = at-ids ∙ append-assoc graph° (numberBytes (r .house) (r .bay) (r .own) (r .held) (r .last)) °ids
 
   -- how long what stands in front is
-  long-graph : length graph° ≡ 1454
+  long-graph : length graph° ≡ houseAt
   long-graph = graph-long (r .graph) (h .sized .listCounts) (h .sized .masks)
 
-  long-numbers : length numbers° ≡ 1462
-  long-numbers = long graph° (numberBytes (r .house) (r .bay) (r .own) (r .held) (r .last)) 1454 8 long-graph (numbers-long (r .house) (r .bay) (r .own) (r .held) (r .last))
+  long-numbers : length numbers° ≡ idsAt
+  long-numbers = long graph° (numberBytes (r .house) (r .bay) (r .own) (r .held) (r .last)) houseAt 8 long-graph (numbers-long (r .house) (r .bay) (r .own) (r .held) (r .last))
 
-  long-ids : length ids° ≡ 5558
-  long-ids = long numbers° (r .ids) 1462 4096 long-numbers (h .sized .ids)
+  long-ids : length ids° ≡ kindsAt
+  long-ids = long numbers° (r .ids) idsAt (idLen * maxHeld) long-numbers (h .sized .ids)
 
-  long-kinds : length kinds° ≡ 5686
-  long-kinds = long ids° (r .kinds) 5558 128 long-ids (h .sized .kinds)
+  long-kinds : length kinds° ≡ signersAt
+  long-kinds = long ids° (r .kinds) kindsAt maxHeld long-ids (h .sized .kinds)
 
-  long-signers : length signers° ≡ 5814
-  long-signers = long kinds° (r .signers) 5686 128 long-kinds (h .sized .signers)
+  long-signers : length signers° ≡ ballotsAt
+  long-signers = long kinds° (r .signers) signersAt maxHeld long-kinds (h .sized .signers)
 
-  long-ballots : length ballots° ≡ 6838
-  long-ballots = long signers° (words 8 (r .ballots)) 5814 1024 long-signers (words-length 8 (r .ballots) ∙ ap (λ (k : ℕ). 8 * k) (h .sized .ballots))
+  long-ballots : length ballots° ≡ previousAt
+  long-ballots = long signers° (words 8 (r .ballots)) ballotsAt 1024 long-signers (words-length 8 (r .ballots) ∙ ap (λ (k : ℕ). 8 * k) (h .sized .ballots))
 
-  long-previous : length previous° ≡ 6966
-  long-previous = long ballots° (r .previous) 6838 128 long-ballots (h .sized .previous)
+  long-previous : length previous° ≡ countsAt
+  long-previous = long ballots° (r .previous) previousAt maxHeld long-ballots (h .sized .previous)
 
-  long-counts : length counts° ≡ 7094
-  long-counts = long previous° (r .counts) 6966 128 long-previous (h .sized .counts)
+  long-counts : length counts° ≡ referencesAt
+  long-counts = long previous° (r .counts) countsAt maxHeld long-previous (h .sized .counts)
 
-  long-references : length references° ≡ 23478
-  long-references = long counts° (r .references) 7094 16384 long-counts (h .sized .references)
+  long-references : length references° ≡ knownAt
+  long-references = long counts° (r .references) referencesAt (maxHeld * maxHeld) long-counts (h .sized .references)
 
-  long-known : length known° ≡ 23606
-  long-known = long references° (r .known) 23478 128 long-references (h .sized .known)
+  long-known : length known° ≡ recentAt
+  long-known = long references° (r .known) knownAt maxHeld long-references (h .sized .known)
 
   -- ---- each field
   read-part : (n at : ℕ) (p v q : List ℕ) → all ≡ p ++ (v ++ q) → length p ≡ at → length v ≡ n → part n all at ≡ v
@@ -259,17 +261,17 @@ module _ (r : Round) (t : List ℕ) (h : Laid r) where
   at-house : all ≡ graph° ++ (bytes 2 (r .house) ++ (bytes 2 (r .bay) ++ (bytes 2 (r .own) ++ r .held ∷ r .last ∷ °ids)))
   at-house = at-bay ∙ append-assoc graph° (bytes 2 (r .house)) (bytes 2 (r .bay) ++ (bytes 2 (r .own) ++ r .held ∷ r .last ∷ °ids))
 
-  long-bay : length (graph° ++ bytes 2 (r .house)) ≡ 1456
-  long-bay = long graph° (bytes 2 (r .house)) 1454 2 long-graph (bytes-length 2 (r .house))
+  long-bay : length (graph° ++ bytes 2 (r .house)) ≡ bayAt
+  long-bay = long graph° (bytes 2 (r .house)) houseAt 2 long-graph (bytes-length 2 (r .house))
 
-  long-own : length (graph° ++ bytes 2 (r .house) ++ bytes 2 (r .bay)) ≡ 1458
-  long-own = long (graph° ++ bytes 2 (r .house)) (bytes 2 (r .bay)) 1456 2 long-bay (bytes-length 2 (r .bay))
+  long-own : length (graph° ++ bytes 2 (r .house) ++ bytes 2 (r .bay)) ≡ ownAt
+  long-own = long (graph° ++ bytes 2 (r .house)) (bytes 2 (r .bay)) bayAt 2 long-bay (bytes-length 2 (r .bay))
 
-  long-held : length (graph° ++ bytes 2 (r .house) ++ bytes 2 (r .bay) ++ bytes 2 (r .own)) ≡ 1460
-  long-held = long (graph° ++ bytes 2 (r .house) ++ bytes 2 (r .bay)) (bytes 2 (r .own)) 1458 2 long-own (bytes-length 2 (r .own))
+  long-held : length (graph° ++ bytes 2 (r .house) ++ bytes 2 (r .bay) ++ bytes 2 (r .own)) ≡ heldAt
+  long-held = long (graph° ++ bytes 2 (r .house) ++ bytes 2 (r .bay)) (bytes 2 (r .own)) ownAt 2 long-own (bytes-length 2 (r .own))
 
-  long-last : length (graph° ++ bytes 2 (r .house) ++ bytes 2 (r .bay) ++ bytes 2 (r .own) ++ (r .held ∷ [])) ≡ 1461
-  long-last = long (graph° ++ bytes 2 (r .house) ++ bytes 2 (r .bay) ++ bytes 2 (r .own)) (r .held ∷ []) 1460 1 long-held refl
+  long-last : length (graph° ++ bytes 2 (r .house) ++ bytes 2 (r .bay) ++ bytes 2 (r .own) ++ (r .held ∷ [])) ≡ lastAt
+  long-last = long (graph° ++ bytes 2 (r .house) ++ bytes 2 (r .bay) ++ bytes 2 (r .own)) (r .held ∷ []) heldAt 1 long-held refl
 
   -- the graph
   abbrev front : List ℕ
@@ -278,37 +280,37 @@ module _ (r : Round) (t : List ℕ) (h : Laid r) where
   at-masks : all ≡ front ++ r .graph .counts ++ (words 4 (r .graph .masks) ++ °numbers)
   at-masks = at-numbers ∙ append-assoc (front ++ r .graph .counts) (words 4 (r .graph .masks)) °numbers
 
-  long-masks : length (front ++ r .graph .counts) ≡ 46
-  long-masks = long front (r .graph .counts) 2 44 refl (h .sized .listCounts)
+  long-masks : length (front ++ r .graph .counts) ≡ masksAt
+  long-masks = long front (r .graph .counts) 2 lists refl (h .sized .listCounts)
 
   graph-back : graphIn all ≡ r .graph
   graph-back =
       let a : getD all 0 0 ≡ r .graph .acceptors = ap (λ (x : List ℕ). getD x 0 0) at-masks in
       let l : getD all 1 0 ≡ r .graph .learners = ap (λ (x : List ℕ). getD x 1 0) at-masks in
-      let c = read-part 44 2 front (r .graph .counts) (words 4 (r .graph .masks) ++ °numbers) (at-masks ∙ append-assoc front (r .graph .counts) (words 4 (r .graph .masks) ++ °numbers)) refl (h .sized .listCounts) in
-      let m : numbers 4 352 all 46 ≡ r .graph .masks =
-      ap (λ (x : List ℕ). numbers 4 352 x 46) at-masks ∙ numbers-words 4 (r .graph .masks) (front ++ r .graph .counts) °numbers 46 352 long-masks (h .sized .masks) (h .maskFits) in
+      let c = read-part lists 2 front (r .graph .counts) (words 4 (r .graph .masks) ++ °numbers) (at-masks ∙ append-assoc front (r .graph .counts) (words 4 (r .graph .masks) ++ °numbers)) refl (h .sized .listCounts) in
+      let m : numbers 4 (maxMasks * lists) all masksAt ≡ r .graph .masks =
+      ap (λ (x : List ℕ). numbers 4 (maxMasks * lists) x masksAt) at-masks ∙ numbers-words 4 (r .graph .masks) (front ++ r .graph .counts) °numbers masksAt (maxMasks * lists) long-masks (h .sized .masks) (h .maskFits) in
       λ i. record { acceptors = a i; learners = l i; counts = c i; masks = m i }
 
-  ballots-back : numbers 8 128 all 5814 ≡ r .ballots
-  ballots-back = ap (λ (x : List ℕ). numbers 8 128 x 5814) at-ballots ∙ numbers-words 8 (r .ballots) signers° °previous 5814 128 long-signers (h .sized .ballots) (h .ballotFits)
+  ballots-back : numbers 8 maxHeld all ballotsAt ≡ r .ballots
+  ballots-back = ap (λ (x : List ℕ). numbers 8 maxHeld x ballotsAt) at-ballots ∙ numbers-words 8 (r .ballots) signers° °previous ballotsAt maxHeld long-signers (h .sized .ballots) (h .ballotFits)
 
   back : roundIn all ≡ r
   unfolding roundIn
   back =
-      let house = read-number 1454 (r .house) graph° (bytes 2 (r .bay) ++ (bytes 2 (r .own) ++ r .held ∷ r .last ∷ °ids)) at-house long-graph (h .houseFits) in
-      let bay = read-number 1456 (r .bay) (graph° ++ bytes 2 (r .house)) (bytes 2 (r .own) ++ r .held ∷ r .last ∷ °ids) at-bay long-bay (h .bayFits) in
-      let own = read-number 1458 (r .own) (graph° ++ bytes 2 (r .house) ++ bytes 2 (r .bay)) (r .held ∷ r .last ∷ °ids) at-own long-own (h .ownFits) in
-      let held = read-byte 1460 (r .held) (graph° ++ bytes 2 (r .house) ++ bytes 2 (r .bay) ++ bytes 2 (r .own)) (r .last ∷ °ids) at-held long-held in
-      let last = read-byte 1461 (r .last) (graph° ++ bytes 2 (r .house) ++ bytes 2 (r .bay) ++ bytes 2 (r .own) ++ (r .held ∷ [])) °ids at-last long-last in
-      let ids = read-part 4096 1462 numbers° (r .ids) °kinds at-ids long-numbers (h .sized .ids) in
-      let kinds = read-part 128 5558 ids° (r .kinds) °signers at-kinds long-ids (h .sized .kinds) in
-      let signers = read-part 128 5686 kinds° (r .signers) °ballots at-signers long-kinds (h .sized .signers) in
-      let previous = read-part 128 6838 ballots° (r .previous) °counts at-previous long-ballots (h .sized .previous) in
-      let counts = read-part 128 6966 previous° (r .counts) °references at-counts long-previous (h .sized .counts) in
-      let references = read-part 16384 7094 counts° (r .references) °known at-references long-counts (h .sized .references) in
-      let known = read-part 128 23478 references° (r .known) °recent at-known long-references (h .sized .known) in
-      let recent = read-part 128 23606 known° (r .recent) t at-recent long-known (h .sized .recent) in
+      let house = read-number houseAt (r .house) graph° (bytes 2 (r .bay) ++ (bytes 2 (r .own) ++ r .held ∷ r .last ∷ °ids)) at-house long-graph (h .houseFits) in
+      let bay = read-number bayAt (r .bay) (graph° ++ bytes 2 (r .house)) (bytes 2 (r .own) ++ r .held ∷ r .last ∷ °ids) at-bay long-bay (h .bayFits) in
+      let own = read-number ownAt (r .own) (graph° ++ bytes 2 (r .house) ++ bytes 2 (r .bay)) (r .held ∷ r .last ∷ °ids) at-own long-own (h .ownFits) in
+      let held = read-byte heldAt (r .held) (graph° ++ bytes 2 (r .house) ++ bytes 2 (r .bay) ++ bytes 2 (r .own)) (r .last ∷ °ids) at-held long-held in
+      let last = read-byte lastAt (r .last) (graph° ++ bytes 2 (r .house) ++ bytes 2 (r .bay) ++ bytes 2 (r .own) ++ (r .held ∷ [])) °ids at-last long-last in
+      let ids = read-part (idLen * maxHeld) idsAt numbers° (r .ids) °kinds at-ids long-numbers (h .sized .ids) in
+      let kinds = read-part maxHeld kindsAt ids° (r .kinds) °signers at-kinds long-ids (h .sized .kinds) in
+      let signers = read-part maxHeld signersAt kinds° (r .signers) °ballots at-signers long-kinds (h .sized .signers) in
+      let previous = read-part maxHeld previousAt ballots° (r .previous) °counts at-previous long-ballots (h .sized .previous) in
+      let counts = read-part maxHeld countsAt previous° (r .counts) °references at-counts long-previous (h .sized .counts) in
+      let references = read-part (maxHeld * maxHeld) referencesAt counts° (r .references) °known at-references long-counts (h .sized .references) in
+      let known = read-part maxHeld knownAt references° (r .known) °recent at-known long-references (h .sized .known) in
+      let recent = read-part maxHeld recentAt known° (r .recent) t at-recent long-known (h .sized .recent) in
       λ i.
       record {
         graph = graph-back i;

@@ -8,7 +8,9 @@ use Rattle.base.specs.Bytes.{be, Octets}
 use Rattle.base.proofs.Bytes.{part-length}
 use Rattle.round.specs.Demands.{Typed}
 use Rattle.round.proofs.Parts.{bytes-take, bytes-drop}
-use Rattle.roundbytes.specs.Layout.{numbers, roundLen, roundIn}
+use Rattle.roundbytes.specs.Layout.{numbers, roundLen, roundIn, houseAt, bayAt, idsAt, kindsAt, signersAt, ballotsAt, previousAt, countsAt, referencesAt, knownAt, recentAt}
+use Rattle.round.specs.Limits.{maxHeld}
+use Rattle.message.specs.Layout.{idLen}
 
 -- ---- numbers of two and of eight bytes
 pub be-two : (s : List ℕ) (at : ℕ) → Octets s → be 2 s at < 256 ^ 2
@@ -28,16 +30,16 @@ pub read-typed : (b : List ℕ) → Octets b → roundLen ≤ length b → Typed
 unfolding roundIn
 read-typed b o h =
     record {
-      houseFits = be-two b 1454 o;
-      bayFits = be-two b 1456 o;
-      idsSize = part-length 4096 b 1462 (omega arith);
-      kindsSize = part-length 128 b 5558 (omega arith);
-      signersSize = part-length 128 b 5686 (omega arith);
-      ballotsSize = numbers-length 8 128 b 5814;
-      previousSize = part-length 128 b 6838 (omega arith);
-      countsSize = part-length 128 b 6966 (omega arith);
-      referencesSize = part-length 16384 b 7094 (omega arith);
-      knownSize = part-length 128 b 23478 (omega arith);
-      recentSize = part-length 128 b 23606 (omega arith);
-      idBytes = bytes-take 4096 (drop 1462 b) (bytes-drop 1462 b o);
+      houseFits = be-two b houseAt o;
+      bayFits = be-two b bayAt o;
+      idsSize = part-length (idLen * maxHeld) b idsAt (omega arith);
+      kindsSize = part-length maxHeld b kindsAt (omega arith);
+      signersSize = part-length maxHeld b signersAt (omega arith);
+      ballotsSize = numbers-length 8 maxHeld b ballotsAt;
+      previousSize = part-length maxHeld b previousAt (omega arith);
+      countsSize = part-length maxHeld b countsAt (omega arith);
+      referencesSize = part-length (maxHeld * maxHeld) b referencesAt (omega arith);
+      knownSize = part-length maxHeld b knownAt (omega arith);
+      recentSize = part-length maxHeld b recentAt (omega arith);
+      idBytes = bytes-take (idLen * maxHeld) (drop idsAt b) (bytes-drop idsAt b o);
     }

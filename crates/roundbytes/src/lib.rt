@@ -3,88 +3,75 @@ use base::put_all;
 use base::put8;
 use base::put16;
 use base::put32;
-use base::read16;
 use base::read32;
-use base::read64;
 use graph::Graph;
+use graph::LISTS;
+use graph::PLACES;
+use message::layout::ID_LEN;
+use round::MAX_HELD;
+use round::NO_PLACE;
+
+pub mod readers;
+
 ghost use mathlib.Core.Path.{_≡_};
 ghost use Prim.Native.Nat.{_+_, _-_, _*_, _≤_};
 ghost use lib.ListN.{length, replicate};
-ghost use Rattle.base.specs.Bytes.{be, bytes, putAt};
+ghost use Rattle.base.specs.Bytes.{putAt};
 ghost use Rattle.message.specs.Writer.{fronted};
 ghost use Rattle.round.specs.Limits.{noPlace};
 ghost use Rattle.round.specs.Opening.{emptyRound};
-ghost use Rattle.roundbytes.specs.Layout.{houseAt, roundLen, words, numbers, graphBytes, numberBytes, roundBytes};
+ghost use Rattle.roundbytes.specs.Layout.{houseAt, roundLen, words, numbers, graphBytes, numberBytes, roundBytes, masksAt};
+ghost use Rattle.graph.specs.Limits.{maxMasks, lists};
 
-// Where each field stands; specs/Layout has the sums. The two bytes in front are the graph's acceptors and learners.
+// Where each field stands, the same sums as in specs/Layout. The two bytes in front are the graph's acceptors and learners.
+pub const ACCEPTORS_AT: usize = 0;
+
+pub const LEARNERS_AT: usize = 1;
+
 pub const LIST_COUNTS_AT: usize = 2;
 
-pub const MASKS_AT: usize = 46;
+pub const MASKS_AT: usize = LIST_COUNTS_AT + LISTS;
 
-pub const HOUSE_AT: usize = 1454;
+pub const HOUSE_AT: usize = MASKS_AT + 4 * PLACES;
 
-pub const BAY_AT: usize = 1456;
+pub const BAY_AT: usize = HOUSE_AT + 2;
 
-pub const OWN_AT: usize = 1458;
+pub const OWN_AT: usize = BAY_AT + 2;
 
-pub const HELD_AT: usize = 1460;
+pub const HELD_AT: usize = OWN_AT + 2;
 
-pub const LAST_AT: usize = 1461;
+pub const LAST_AT: usize = HELD_AT + 1;
 
-pub const IDS_AT: usize = 1462;
+pub const IDS_AT: usize = LAST_AT + 1;
 
-pub const KINDS_AT: usize = 5558;
+pub const KINDS_AT: usize = IDS_AT + ID_LEN * MAX_HELD;
 
-pub const SIGNERS_AT: usize = 5686;
+pub const SIGNERS_AT: usize = KINDS_AT + MAX_HELD;
 
-pub const BALLOTS_AT: usize = 5814;
+pub const BALLOTS_AT: usize = SIGNERS_AT + MAX_HELD;
 
-pub const PREVIOUS_AT: usize = 6838;
+pub const PREVIOUS_AT: usize = BALLOTS_AT + 8 * MAX_HELD;
 
-pub const COUNTS_AT: usize = 6966;
+pub const COUNTS_AT: usize = PREVIOUS_AT + MAX_HELD;
 
-pub const REFERENCES_AT: usize = 7094;
+pub const REFERENCES_AT: usize = COUNTS_AT + MAX_HELD;
 
-pub const KNOWN_AT: usize = 23478;
+pub const KNOWN_AT: usize = REFERENCES_AT + MAX_HELD * MAX_HELD;
 
-pub const RECENT_AT: usize = 23606;
+pub const RECENT_AT: usize = KNOWN_AT + MAX_HELD;
 
 // How many bytes a round takes.
-pub const ROUND_LEN: usize = 23734;
-
-// Stands for no place of a last sent message.
-const NO_PLACE: u8 = 255;
-
-// A two-byte number.
-pub fn word16(s: &[u8], at: usize) -> u16
-    requires { ⌜ at + 2 ≤ length (now s) ⌝ }
-    ensures { λ r. ⌜ r ≡ be 2 (now (s .entry)) at ⌝ }
-{
-    read16(s, at) as u16
-}
+pub const ROUND_LEN: usize = RECENT_AT + MAX_HELD;
 
 // ---- arrays read
-pub fn masks_in(s: &[u8]) -> [u32; 352]
-    requires { ⌜ 1454 ≤ length (now s) ⌝ }
-    ensures { λ r. ⌜ r ≡ numbers 4 352 (now (s .entry)) 46 ⌝ }
+pub fn masks_in(s: &[u8]) -> [u32; PLACES]
+    requires { ⌜ houseAt ≤ length (now s) ⌝ }
+    ensures { λ r. ⌜ r ≡ numbers 4 (maxMasks * lists) (now (s .entry)) masksAt ⌝ }
 {
-    let mut out = [0u32; 352];
+    let mut out = [0u32; PLACES];
     let mut i: usize = 0;
-    while i < 352 {
+    while i < PLACES {
         out[i] = read32(s, MASKS_AT + 4 * i);
-        i += 1;
-    }
-    out
-}
-
-pub fn ballots_in(s: &[u8]) -> [u64; 128]
-    requires { ⌜ 6838 ≤ length (now s) ⌝ }
-    ensures { λ r. ⌜ r ≡ numbers 8 128 (now (s .entry)) 5814 ⌝ }
-{
-    let mut out = [0u64; 128];
-    let mut i: usize = 0;
-    while i < 128 {
-        out[i] = read64(s, BALLOTS_AT + 8 * i);
         i += 1;
     }
     out
@@ -92,8 +79,8 @@ pub fn ballots_in(s: &[u8]) -> [u64; 128]
 
 // ---- arrays put in
 fn put_masks(buf: &mut [u8], masks: &[u32])
-    requires { ⌜ 46 + 4 * length (now masks) ≤ length (now buf) ⌝ }
-    ensures { λ _. ⌜ now (buf .exit) ≡ putAt (now (buf .entry)) 46 (words 4 (now (masks .entry))) ⌝ }
+    requires { ⌜ masksAt + 4 * length (now masks) ≤ length (now buf) ⌝ }
+    ensures { λ _. ⌜ now (buf .exit) ≡ putAt (now (buf .entry)) masksAt (words 4 (now (masks .entry))) ⌝ }
 {
     let mut i: usize = 0;
     while i < masks.len() {
@@ -107,8 +94,8 @@ fn put_graph(graph: Graph, buf: &mut [u8])
     requires { ⌜ roundLen ≤ length (now buf) ⌝ }
     ensures { λ _. ⌜ now (buf .exit) ≡ putAt (now (buf .entry)) 0 (graphBytes graph) ⌝ }
 {
-    put8(buf, 0, graph.acceptors);
-    put8(buf, 1, graph.learners);
+    put8(buf, ACCEPTORS_AT, graph.acceptors);
+    put8(buf, LEARNERS_AT, graph.learners);
     put_all(buf, LIST_COUNTS_AT, &graph.counts);
     put_masks(buf, &graph.masks);
 }

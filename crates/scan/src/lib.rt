@@ -1,5 +1,5 @@
 // What the work-out pass asks of the places of a round, each by one loop over them: which places lie beneath a message, which fork, who is caught, and
-// which place an id names. The arrays have an entry for each place, and are lent.
+// which place an id names. The round's bytes and its notes are lent whole.
 
 pub mod beneath;
 pub mod forks;
@@ -12,6 +12,3 @@ pub struct Under {
     pub ballot: u64,
     pub offered: bool,
 }
-
-// How many keys ids have.
-pub const ID_KEYS: usize = 32;

@@ -1,48 +1,45 @@
 // Names: messages are told apart by id, and an id held twice names the lower place. So the name of a place is the lowest one with its id, and
-// two messages are the same exactly if their names are. A previous message is compared by its name too; 255 is the name of none.
+// two messages are the same exactly if their names are. A previous message is compared by its name too; none is the name of none.
 // Ids are found by a key, so that few places are compared.
-use crate::ID_KEYS;
 use base::size;
-use places::Places;
+use message::layout::ID_LEN;
+use notes::ID_KEYS;
+use notes::readers::id_set;
+use notes::writers::file_id;
+use notes::writers::put_name;
 use places::sets::first_in;
-use places::sets::put_place;
 use places::sets::without_first;
+use round::NO_PLACE;
+use roundbytes::IDS_AT;
 ghost use mathlib.Core.Path.{_≡_};
-ghost use Prim.Native.Nat.{_+_, _*_, _≤_, _<_};
-ghost use lib.ListN.{length, set};
-ghost use Rattle.base.specs.Bytes.{part};
-ghost use Rattle.scan.specs.Arrays.{Lowest, Named, idIn, idKeys, idKey, IdsIndexed};
+ghost use Prim.Native.Nat.{_≤_, _<_};
+ghost use lib.ListN.{length};
+ghost use Rattle.roundbytes.specs.Layout.{roundLen, roundIn};
+ghost use Rattle.notes.specs.Layout.{wordsLen, wordNotes, byteNotes};
+ghost use Rattle.notes.specs.Asking.{Asked};
+ghost use Rattle.scan.specs.Arrays.{Lowest, idKey, IdsIndexed, IdsFiled, NamedMore, NamedAll};
+ghost use Rattle.round.specs.Limits.{maxHeld};
 
 // The key of the id that begins at a byte: the low bits of its first byte; 0 where the bytes end before it.
-pub fn id_key(ids: &[u8], at: usize) -> usize
-    ensures { λ r. ⌜ r ≡ idKey (now (ids .entry)) at ⌝ }
+fn id_key(bytes: &[u8], at: usize) -> usize
+    ensures { λ r. ⌜ r ≡ idKey (now (bytes .entry)) at ⌝ }
 {
-    if ids.len() <= at {
+    if bytes.len() <= at {
         return 0;
     }
-    size(ids[at]) & 31
+    size(bytes[at]) % ID_KEYS
 }
 
 // The lowest of the first n places with this id, or n.
-pub fn name_of<'a>(
-    ids: &'a [u8],
-    n: usize,
-    id: &'a [u8],
-    key_low: &'a [u64],
-    key_high: &'a [u64],
-) -> usize
-    requires { ⌜ (n ≤ 128) × ((length (now ids) ≡ 4096) × ((length (now «key_low») ≡ idKeys) × ((length (now «key_high») ≡ idKeys)
-        × IdsIndexed (now ids) n (now «key_low») (now «key_high»)))) ⌝ }
-    ensures { λ r. ⌜ Lowest (now (ids .entry)) n (now (id .entry)) r ⌝ }
+pub fn name_of<'a>(s: &'a [u8], words: &'a [u64], n: usize, id: &'a [u8]) -> usize
+    requires { ⌜ (roundLen ≤ length (now s)) × ((length (now words) ≡ wordsLen) × IdsFiled (roundIn (now s)) n (wordNotes (now words))) ⌝ }
+    ensures { λ r. ⌜ Lowest (roundIn (now (s .entry))) n (now (id .entry)) r ⌝ }
 {
-    let k = id_key(id, 0);
-    let low = key_low[k];
-    let high = key_high[k];
-    let mut rest = Places { low, high };
+    let mut rest = id_set(words, id_key(id, 0));
     let mut i = first_in(rest.low, rest.high, n);
     while i < n {
-        let at = 32 * i;
-        if check::same(&ids[at..at + 32], id) {
+        let at = IDS_AT + ID_LEN * i;
+        if check::same(&s[at..at + ID_LEN], id) {
             return i;
         }
         rest = without_first(rest.low, rest.high);
@@ -52,35 +49,26 @@ pub fn name_of<'a>(
 }
 
 // The name of place i is put among the names, and the place into the index of the ids: the lowest of the places up to it with its id.
-pub fn name_place(ids: &[u8], i: usize, names: &mut [u8], keys: &mut [u64]) -> usize
-    requires { ⌜ (i < 128) × ((length (now ids) ≡ 4096) × ((length (now names) ≡ 256) × ((length (now keys) ≡ idKeys + idKeys)
-        × IdsIndexed (now ids) i (part idKeys (now keys) 0) (part idKeys (now keys) idKeys)))) ⌝ }
-    ensures { λ r. ⌜ (now (names .exit) ≡ set (now (names .entry)) i r) × (Lowest (now (ids .entry)) i (idIn (now (ids .entry)) i) r
-        × IdsIndexed (now (ids .entry)) (i + 1) (part idKeys (now (keys .exit)) 0) (part idKeys (now (keys .exit)) idKeys)) ⌝ }
+pub fn name_place(s: &[u8], words: &mut [u64], octets: &mut [u8], i: usize) -> usize
+    requires { ⌜ Asked (now s) (now words) (now octets) × ((i < maxHeld) × IdsIndexed (roundIn (now s)) i (wordNotes (now words))) ⌝ }
+    ensures { λ r. ⌜ NamedMore (roundIn (now (s .entry))) i r (wordNotes (now (words .entry))) (wordNotes (now (words .exit))) (byteNotes (now (octets .entry))) (byteNotes (now (octets .exit))) ⌝ }
 {
-    let at = 32 * i;
-    let name = name_of(
-        ids,
-        i,
-        &ids[at..at + 32],
-        &keys[0..ID_KEYS],
-        &keys[ID_KEYS..2 * ID_KEYS],
-    );
-    names[i] = name as u8;
-    put_place(keys, ID_KEYS, id_key(ids, at), i);
+    let at = IDS_AT + ID_LEN * i;
+    let name = name_of(s, words, i, &s[at..at + ID_LEN]);
+    put_name(octets, i, name as u8);
+    file_id(words, id_key(s, at), i);
     name
 }
 
 // The names of the first n places, and their ids by key.
-pub fn name_places(ids: &[u8], n: usize, names: &mut [u8], keys: &mut [u64])
-    requires { ⌜ (n ≤ 128) × ((length (now ids) ≡ 4096) × ((length (now names) ≡ 256) × (length (now keys) ≡ idKeys + idKeys))) ⌝ }
-    ensures { λ _. ⌜ Named (now (ids .entry)) n (now (names .exit))
-        × IdsIndexed (now (ids .entry)) n (part idKeys (now (keys .exit)) 0) (part idKeys (now (keys .exit)) idKeys) ⌝ }
+pub fn name_places(s: &[u8], words: &mut [u64], octets: &mut [u8], n: usize)
+    requires { ⌜ Asked (now s) (now words) (now octets) × (n ≤ maxHeld) ⌝ }
+    ensures { λ _. ⌜ NamedAll (roundIn (now (s .entry))) n (wordNotes (now (words .entry))) (wordNotes (now (words .exit))) (byteNotes (now (octets .entry))) (byteNotes (now (octets .exit))) ⌝ }
 {
-    names[255] = 255;
+    put_name(octets, size(NO_PLACE), NO_PLACE);
     let mut i: usize = 0;
     while i < n {
-        let _name = name_place(ids, i, names, keys);
+        let _name = name_place(s, words, octets, i);
         i += 1;
     }
 }

@@ -1,7 +1,6 @@
 -- The peaks of some ballots answer Buried: a higher ballot of another value is among them exactly if one of the two peaks is one.
 use mathlib.Core.Path.{_≡_, refl, sym, ap, subst, _∙_}
 use mathlib.Core.Logic.{_⊎_, inl, inr}
-use mathlib.Core.List.{List}
 use mathlib.Core.Bool.{Bool, true, false, not, _&&_, _||_}
 use Prim.Native.Nat.{ℕ, zero, suc, _≤_, _<_}
 use native.Mathlib.Decide.{decLt, ℕ-discrete}
@@ -14,6 +13,8 @@ use Rattle.base.proofs.Tests.{same-test, and-in, and-l, and-r, or-l, or-r, or-o
 use Rattle.base.specs.Ballots.{valueOf}
 use Rattle.voting.specs.declared.Peaks.{Peaks}
 use Rattle.places.specs.PlaceSets.{Covers}
+use Rattle.round.specs.Round.{Round}
+use Rattle.notes.specs.Layout.{WordNotes, ByteNotes}
 use Rattle.voting.specs.Votes.{voteBallot, raised, peaksOf, isBuried, isOpposed, isRival, isBarred}
 use Rattle.places.proofs.Walks.{Passed}
 use Rattle.places.proofs.Loops.{any-none, not-covered}
@@ -175,11 +176,11 @@ buried-by-peaks f n x = go (peaksOf f n) (peaked f n)
                 or-r (over (p .best)) (over (p .other)) (attained (omega arith) e (h .otherAt))
 
 -- an opposed place is a rival: where there is none of these, the learner is not barred
-pub no-rival : (forms learners signers tops : List ℕ) (n low high signer v b : ℕ) → any (isRival forms learners signers tops low high signer v b) (below n) ≡ false → isBarred forms learners signers tops n low high signer v b ≡ false
-no-rival forms learners signers tops n low high signer v b e = none (peaksOf (voteBallot forms learners tops low high b) n)
+pub no-rival : (r : Round) (x : WordNotes) (y : ByteNotes) (n low high signer v b : ℕ) → any (isRival r x y low high signer v b) (below n) ≡ false → isBarred r x y n low high signer v b ≡ false
+no-rival r x y n low high signer v b e = none (peaksOf (voteBallot x y low high b) n)
   where
-    none : (p : Peaks) → any (isOpposed forms learners signers tops low high b signer v (p .best) (p .other)) (below n) ≡ false
+    none : (p : Peaks) → any (isOpposed r x y low high b signer v p) (below n) ≡ false
     none p =
-        any-none (isOpposed forms learners signers tops low high b signer v (p .best) (p .other)) n (λ j l t.
-        subst T e (any-in (isRival forms learners signers tops low high signer v b) {x = j} (below-in n l)
-        (and-l (isRival forms learners signers tops low high signer v b j) (not (isBuried (p .best) (p .other) (getD tops j 0))) t)))
+        any-none (isOpposed r x y low high b signer v p) n (λ j l t.
+        subst T e (any-in (isRival r x y low high signer v b) {x = j} (below-in n l)
+        (and-l (isRival r x y low high signer v b j) (not (isBuried (p .best) (p .other) (getD (x .tops) j 0))) t)))

@@ -1,9 +1,15 @@
 // Buried, fresh and the learners of a 2a.
 use crate::Peaks;
 use base::value;
+use graph::MAX_LEARNERS;
 use graph::Mask;
 use graph::lists::is_quorum;
 use graph::lists::safe_without;
+use notes::Walks;
+use notes::readers::form_at;
+use notes::readers::fresh_at;
+use notes::readers::learners_at;
+use notes::readers::top_at;
 use places::Places;
 use places::sets::first_in;
 use places::sets::has_learner;
@@ -11,6 +17,10 @@ use places::sets::has_place;
 use places::sets::with_acceptor;
 use places::sets::with_learner;
 use places::sets::without_first;
+use roundbytes::LIST_COUNTS_AT;
+use roundbytes::MASKS_AT;
+use roundbytes::readers::acceptors_of;
+use roundbytes::readers::signer_at;
 ghost use mathlib.Core.Path.{_≡_};
 ghost use mathlib.Core.Bool.{not, _&&_, _||_};
 ghost use Prim.Native.Nat.{ℕ, _≤_, _<_};
@@ -19,33 +29,53 @@ ghost use lib.ListN.{length, getD};
 ghost use Rattle.base.specs.Tests.{any, below};
 ghost use Rattle.base.specs.Sets.{has};
 ghost use Rattle.graph.specs.LearnerGraph.{isQuorum, safeWithout};
-ghost use Rattle.graph.specs.Held.{heldGraph, Sized};
-ghost use Rattle.places.specs.PlaceSets.{Whole, Covers};
+ghost use Rattle.places.specs.PlaceSets.{Covers};
+ghost use Rattle.round.specs.Holdings.{graphOf};
+ghost use Rattle.roundbytes.specs.Layout.{roundIn};
+ghost use Rattle.notes.specs.Layout.{octetsLen, wordNotes, byteNotes, Lent};
 ghost use Rattle.voting.specs.Votes.{isVote, voteBallot, raised, peaksOf, isBuried, isOpposed, isRival, isBarred, isBacker, backedBy};
+ghost use Rattle.voting.specs.Asking.{Graphed, Barring, Backing};
+ghost use Rattle.notes.specs.Asking.{Asked, Covering};
+ghost use Rattle.round.specs.Limits.{maxHeld};
+ghost use Rattle.graph.specs.Limits.{maxLearners, maskBits};
 
-// Whether place j is in the set and holds a 2a with learner b.
-fn is_vote<'a>(forms: &'a [u8], learners: &'a [u8], low: u64, high: u64, b: usize, j: usize) -> bool
-    requires { ⌜ (b < 8) × ((j < 128) × (Whole (now forms) × Whole (now learners))) ⌝ }
-    ensures { λ r. ⌜ r ≡ isVote (now (forms .entry)) (now (learners .entry)) low high b j ⌝ }
+// ---- the graph in the round's bytes; its masks are lent as they were read
+// Whether a set of acceptors is a quorum of learner a.
+pub fn quorum_of<'a>(s: &'a [u8], masks: &'a [Mask], a: usize, set: Mask) -> bool
+    requires { ⌜ Graphed (now s) (now masks) × (a < maxLearners) ⌝ }
+    ensures { λ r. ⌜ r ≡ isQuorum (graphOf (roundIn (now (s .entry)))) a (has set) ⌝ }
 {
-    has_place(low, high, j) & (forms[j] == 2) & has_learner(learners[j], b)
+    let acceptors = acceptors_of(s);
+    is_quorum(&s[LIST_COUNTS_AT..MASKS_AT], masks, acceptors, a, set)
+}
+
+// Whether learners a and b stay connected without the acceptors of a set.
+fn safe_for<'a>(s: &'a [u8], masks: &'a [Mask], a: usize, b: usize, caught: Mask) -> bool
+    requires { ⌜ Graphed (now s) (now masks) × ((a < maxLearners) × (b < maxLearners)) ⌝ }
+    ensures { λ r. ⌜ r ≡ safeWithout (graphOf (roundIn (now (s .entry)))) a b (has caught) ⌝ }
+{
+    let acceptors = acceptors_of(s);
+    safe_without(&s[LIST_COUNTS_AT..MASKS_AT], masks, acceptors, a, b, caught)
+}
+
+// ---- votes
+// Whether place j is in the set and holds a 2a with learner b.
+fn is_vote(octets: &[u8], set: Places, b: usize, j: usize) -> bool
+    requires { ⌜ (length (now octets) ≡ octetsLen) × ((b < maxLearners) × (j < maxHeld)) ⌝ }
+    ensures { λ r. ⌜ r ≡ isVote (byteNotes (now (octets .entry))) (set .low) (set .high) b j ⌝ }
+{
+    has_place(set.low, set.high, j)
+        & (form_at(octets, j) == 2)
+        & has_learner(learners_at(octets, j), b)
 }
 
 // Its ballot, or 0.
-fn vote_ballot<'a>(
-    forms: &'a [u8],
-    learners: &'a [u8],
-    tops: &'a [u64],
-    low: u64,
-    high: u64,
-    b: usize,
-    j: usize,
-) -> u64
-    requires { ⌜ (b < 8) × ((j < 128) × (Whole (now forms) × (Whole (now learners) × Whole (now tops)))) ⌝ }
-    ensures { λ r. ⌜ r ≡ voteBallot (now (forms .entry)) (now (learners .entry)) (now (tops .entry)) low high b j ⌝ }
+fn vote_ballot<'a>(words: &'a [u64], octets: &'a [u8], set: Places, b: usize, j: usize) -> u64
+    requires { ⌜ Lent (now words) (now octets) × ((b < maxLearners) × (j < maxHeld)) ⌝ }
+    ensures { λ r. ⌜ r ≡ voteBallot (wordNotes (now (words .entry))) (byteNotes (now (octets .entry))) (set .low) (set .high) b j ⌝ }
 {
-    if is_vote(forms, learners, low, high, b, j) {
-        tops[j]
+    if is_vote(octets, set, b, j) {
+        top_at(words, j)
     } else {
         0
     }
@@ -74,24 +104,21 @@ fn raise(p: Peaks, x: u64) -> Peaks
 
 // The peaks of the ballots of the votes for b among the first n places. The walk has each place of such a vote.
 fn peaks<'a>(
-    forms: &'a [u8],
-    learners: &'a [u8],
-    tops: &'a [u64],
+    words: &'a [u64],
+    octets: &'a [u8],
     n: usize,
-    low: u64,
-    high: u64,
+    set: Places,
     b: usize,
     walk: Places,
 ) -> Peaks
-    requires { ⌜ (b < 8) × ((n ≤ 128) × (Whole (now forms) × (Whole (now learners) × (Whole (now tops)
-        × Covers n (isVote (now forms) (now learners) low high b) (walk .low) (walk .high))))) ⌝ }
-    ensures { λ r. ⌜ r ≡ peaksOf (voteBallot (now (forms .entry)) (now (learners .entry)) (now (tops .entry)) low high b) n ⌝ }
+    requires { ⌜ Lent (now words) (now octets) × ((b < maxLearners) × Covering n (isVote (byteNotes (now octets)) (set .low) (set .high) b) walk) ⌝ }
+    ensures { λ r. ⌜ r ≡ peaksOf (voteBallot (wordNotes (now (words .entry))) (byteNotes (now (octets .entry))) (set .low) (set .high) b) n ⌝ }
 {
     let mut p = Peaks { best: 0, other: 0 };
     let mut rest = walk;
     let mut j: usize = first_in(rest.low, rest.high, n);
     while j < n {
-        let x = vote_ballot(forms, learners, tops, low, high, b, j);
+        let x = vote_ballot(words, octets, set, b, j);
         p = raise(p, x);
         rest = without_first(rest.low, rest.high);
         j = first_in(rest.low, rest.high, n);
@@ -100,76 +127,55 @@ fn peaks<'a>(
 }
 
 // Whether a higher ballot of another value is among those with these peaks.
-fn is_buried(best: u64, other: u64, x: u64) -> bool
-    ensures { λ r. ⌜ r ≡ isBuried best other x ⌝ }
+fn is_buried(p: Peaks, x: u64) -> bool
+    ensures { λ r. ⌜ r ≡ isBuried (p .best) (p .other) x ⌝ }
 {
+    let best = p.best;
+    let other = p.other;
     ((x < best) & (value(best) != value(x))) | ((x < other) & (value(other) != value(x)))
 }
 
 // Whether place j holds a vote for b of this signer, of another value, that is not buried.
 fn is_opposed<'a>(
-    forms: &'a [u8],
-    learners: &'a [u8],
-    signers: &'a [u8],
-    tops: &'a [u64],
-    low: u64,
-    high: u64,
+    s: &'a [u8],
+    words: &'a [u64],
+    octets: &'a [u8],
+    set: Places,
     b: usize,
     signer: u8,
     v: u64,
-    best: u64,
-    other: u64,
+    p: Peaks,
     j: usize,
 ) -> bool
-    requires { ⌜ (b < 8) × ((j < 128) × (Whole (now forms) × (Whole (now learners) × (Whole (now signers) × Whole (now tops))))) ⌝ }
-    ensures { λ r. ⌜ r ≡ isOpposed (now (forms .entry)) (now (learners .entry)) (now (signers .entry)) (now (tops .entry)) low high b signer v best other j ⌝ }
+    requires { ⌜ Asked (now s) (now words) (now octets) × ((b < maxLearners) × (j < maxHeld)) ⌝ }
+    ensures { λ r. ⌜ r ≡ isOpposed (roundIn (now (s .entry))) (wordNotes (now (words .entry))) (byteNotes (now (octets .entry))) (set .low) (set .high) b signer v p j ⌝ }
 {
-    let x = tops[j];
-    is_vote(forms, learners, low, high, b, j)
-        & (signers[j] == signer)
-        & (value(x) != v)
-        & !is_buried(best, other, x)
+    let x = top_at(words, j);
+    is_vote(octets, set, b, j) & (signer_at(s, j) == signer) & (value(x) != v) & !is_buried(p, x)
 }
 
 // Whether there is such a place among the first n. The walk has each of them.
 fn is_barred<'a>(
-    forms: &'a [u8],
-    learners: &'a [u8],
-    signers: &'a [u8],
-    tops: &'a [u64],
+    s: &'a [u8],
+    words: &'a [u64],
+    octets: &'a [u8],
     n: usize,
-    low: u64,
-    high: u64,
+    set: Places,
     b: usize,
     signer: u8,
     v: u64,
-    best: u64,
-    other: u64,
+    p: Peaks,
     walk: Places,
 ) -> bool
-    requires { ⌜ (b < 8) × ((n ≤ 128) × (Whole (now forms) × (Whole (now learners) × (Whole (now signers) × (Whole (now tops)
-        × Covers n (isOpposed (now forms) (now learners) (now signers) (now tops) low high b signer v best other) (walk .low) (walk .high)))))) ⌝ }
-    ensures { λ r. ⌜ r ≡ any (isOpposed (now (forms .entry)) (now (learners .entry)) (now (signers .entry)) (now (tops .entry)) low high b signer v best other) (below n) ⌝ }
+    requires { ⌜ Asked (now s) (now words) (now octets) × ((b < maxLearners)
+        × Covering n (isOpposed (roundIn (now s)) (wordNotes (now words)) (byteNotes (now octets)) (set .low) (set .high) b signer v p) walk) ⌝ }
+    ensures { λ r. ⌜ r ≡ any (isOpposed (roundIn (now (s .entry))) (wordNotes (now (words .entry))) (byteNotes (now (octets .entry))) (set .low) (set .high) b signer v p) (below n) ⌝ }
 {
     let mut found = false;
     let mut rest = walk;
     let mut j: usize = first_in(rest.low, rest.high, n);
     while j < n {
-        found = is_opposed(
-            forms,
-            learners,
-            signers,
-            tops,
-            low,
-            high,
-            b,
-            signer,
-            v,
-            best,
-            other,
-            j,
-        )
-            | found;
+        found = is_opposed(s, words, octets, set, b, signer, v, p, j) | found;
         rest = without_first(rest.low, rest.high);
         j = first_in(rest.low, rest.high, n);
     }
@@ -178,24 +184,22 @@ fn is_barred<'a>(
 
 // The learners of the 2a at place j, if it is in the set, of this signer and of another value than v.
 fn rivals_at<'a>(
-    forms: &'a [u8],
-    learners: &'a [u8],
-    signers: &'a [u8],
-    tops: &'a [u64],
-    low: u64,
-    high: u64,
+    s: &'a [u8],
+    words: &'a [u64],
+    octets: &'a [u8],
+    set: Places,
     signer: u8,
     v: u64,
     j: usize,
 ) -> u8
-    requires { ⌜ (j < 128) × (Whole (now forms) × (Whole (now learners) × (Whole (now signers) × Whole (now tops)))) ⌝ }
-    ensures { λ r. ⌜ ((b : ℕ) → has r b ≡ isRival (now (forms .entry)) (now (learners .entry)) (now (signers .entry)) (now (tops .entry)) low high signer v b j) ⌝ }
+    requires { ⌜ Asked (now s) (now words) (now octets) × (j < maxHeld) ⌝ }
+    ensures { λ r. ⌜ ((b : ℕ) → has r b ≡ isRival (roundIn (now (s .entry))) (wordNotes (now (words .entry))) (byteNotes (now (octets .entry))) (set .low) (set .high) signer v b j) ⌝ }
 {
-    if (forms[j] != 2) | (signers[j] != signer) {
+    if (form_at(octets, j) != 2) | (signer_at(s, j) != signer) {
         return 0;
     }
-    if has_place(low, high, j) & (value(tops[j]) != v) {
-        learners[j]
+    if has_place(set.low, set.high, j) & (value(top_at(words, j)) != v) {
+        learners_at(octets, j)
     } else {
         0
     }
@@ -203,133 +207,83 @@ fn rivals_at<'a>(
 
 // The learners of such places among the first n: no other learner can be barred. The walk has each of these places.
 fn rivals<'a>(
-    forms: &'a [u8],
-    learners: &'a [u8],
-    signers: &'a [u8],
-    tops: &'a [u64],
+    s: &'a [u8],
+    words: &'a [u64],
+    octets: &'a [u8],
     n: usize,
-    low: u64,
-    high: u64,
+    set: Places,
     signer: u8,
     v: u64,
     walk: Places,
 ) -> u8
-    requires { ⌜ (n ≤ 128) × (Whole (now forms) × (Whole (now learners) × (Whole (now signers) × (Whole (now tops)
-        × ((b : ℕ) → Covers n (isRival (now forms) (now learners) (now signers) (now tops) low high signer v b) (walk .low) (walk .high)))))) ⌝ }
-    ensures { λ r. ⌜ ((b : ℕ) → has r b ≡ any (isRival (now (forms .entry)) (now (learners .entry)) (now (signers .entry)) (now (tops .entry)) low high signer v b) (below n)) ⌝ }
+    requires { ⌜ Asked (now s) (now words) (now octets) × ((n ≤ maxHeld)
+        × ((b : ℕ) → Covers n (isRival (roundIn (now s)) (wordNotes (now words)) (byteNotes (now octets)) (set .low) (set .high) signer v b) (walk .low) (walk .high))) ⌝ }
+    ensures { λ r. ⌜ ((b : ℕ) → has r b ≡ any (isRival (roundIn (now (s .entry))) (wordNotes (now (words .entry))) (byteNotes (now (octets .entry))) (set .low) (set .high) signer v b) (below n)) ⌝ }
 {
     let mut mask: u8 = 0;
     let mut rest = walk;
     let mut j: usize = first_in(rest.low, rest.high, n);
     while j < n {
-        mask = rivals_at(forms, learners, signers, tops, low, high, signer, v, j) | mask;
+        mask = rivals_at(s, words, octets, set, signer, v, j) | mask;
         rest = without_first(rest.low, rest.high);
         j = first_in(rest.low, rest.high, n);
     }
     mask
 }
 
-// Whether learner b is barred. The places are gone through only where b is among those learners.
+// Whether learner b is barred. The places are gone through only where b is among the learners of rivals.
 fn bars<'a>(
-    forms: &'a [u8],
-    learners: &'a [u8],
-    signers: &'a [u8],
-    tops: &'a [u64],
+    s: &'a [u8],
+    words: &'a [u64],
+    octets: &'a [u8],
     n: usize,
-    low: u64,
-    high: u64,
+    set: Places,
     signer: u8,
     v: u64,
+    walks: Walks,
     among: u8,
     b: usize,
-    votes: Places,
-    rival_votes: Places,
 ) -> bool
-    requires { ⌜ (b < 8) × ((n ≤ 128) × (Whole (now forms) × (Whole (now learners) × (Whole (now signers) × (Whole (now tops)
-        × (((q : ℕ) → has among q ≡ any (isRival (now forms) (now learners) (now signers) (now tops) low high signer v q) (below n))
-        × (((q : ℕ) → Covers n (isVote (now forms) (now learners) low high q) (votes .low) (votes .high))
-        × ((q : ℕ) → Covers n (isRival (now forms) (now learners) (now signers) (now tops) low high signer v q) («rival_votes» .low) («rival_votes» .high))))))))) ⌝ }
-    ensures { λ r. ⌜ r ≡ isBarred (now (forms .entry)) (now (learners .entry)) (now (signers .entry)) (now (tops .entry)) n low high signer v b ⌝ }
+    requires { ⌜ Barring (now s) (now words) (now octets) n set signer v walks × ((b < maxLearners)
+        × ((q : ℕ) → has among q ≡ any (isRival (roundIn (now s)) (wordNotes (now words)) (byteNotes (now octets)) (set .low) (set .high) signer v q) (below n))) ⌝ }
+    ensures { λ r. ⌜ r ≡ isBarred (roundIn (now (s .entry))) (wordNotes (now (words .entry))) (byteNotes (now (octets .entry))) n (set .low) (set .high) signer v b ⌝ }
 {
     if !has_learner(among, b) {
         return false;
     }
-    let p = peaks(forms, learners, tops, n, low, high, b, votes);
-    is_barred(
-        forms,
-        learners,
-        signers,
-        tops,
-        n,
-        low,
-        high,
-        b,
-        signer,
-        v,
-        p.best,
-        p.other,
-        rival_votes,
-    )
+    let votes = walks.votes;
+    let rival_votes = walks.rivals;
+    let p = peaks(words, octets, n, set, b, votes);
+    is_barred(s, words, octets, n, set, b, signer, v, p, rival_votes)
 }
 
-// The learners that are barred: for each of them there is an opposed place. `votes` has the places of all votes, `rival_votes` of those that are of this
-// signer and of another value than v. Where l is 0, as for a 2a, no place is gone through.
+// Those of the first l learners that are barred: for each of them there is an opposed place. Where l is 0, as for a 2a, no place is gone through.
 pub fn opposing<'a>(
-    forms: &'a [u8],
-    learners: &'a [u8],
-    signers: &'a [u8],
-    tops: &'a [u64],
+    s: &'a [u8],
+    words: &'a [u64],
+    octets: &'a [u8],
     n: usize,
     l: usize,
-    low: u64,
-    high: u64,
+    set: Places,
     signer: u8,
     v: u64,
-    votes: Places,
-    rival_votes: Places,
+    walks: Walks,
 ) -> u8
-    requires { ⌜ (l ≤ 8) × ((n ≤ 128) × (Whole (now forms) × (Whole (now learners) × (Whole (now signers) × (Whole (now tops)
-        × (((b : ℕ) → Covers n (isVote (now forms) (now learners) low high b) (votes .low) (votes .high))
-        × ((b : ℕ) → Covers n (isRival (now forms) (now learners) (now signers) (now tops) low high signer v b) («rival_votes» .low) («rival_votes» .high)))))))) ⌝ }
-    ensures { λ r. ⌜ ((q : ℕ) → has r q
-        ≡ any (λ b. isBarred (now (forms .entry)) (now (learners .entry)) (now (signers .entry)) (now (tops .entry)) n low high signer v b && eqb b q) (below l)) ⌝ }
+    requires { ⌜ Barring (now s) (now words) (now octets) n set signer v walks × (l ≤ maxLearners) ⌝ }
+    ensures { λ r. ⌜ ((q : ℕ) → has r q ≡ any (λ b. isBarred (roundIn (now (s .entry))) (wordNotes (now (words .entry))) (byteNotes (now (octets .entry))) n (set .low) (set .high) signer v b && eqb b q) (below l)) ⌝ }
 {
     if l == 0 {
         return 0;
     }
-    let among = rivals(
-        forms,
-        learners,
-        signers,
-        tops,
-        n,
-        low,
-        high,
-        signer,
-        v,
-        rival_votes,
-    );
+    let rival_votes = walks.rivals;
+    let among = rivals(s, words, octets, n, set, signer, v, rival_votes);
     if among == 0 {
         return 0;
     }
     let mut mask: u8 = 0;
     let mut b: usize = 0;
     while b < l {
-        let on = bars(
-            forms,
-            learners,
-            signers,
-            tops,
-            n,
-            low,
-            high,
-            signer,
-            v,
-            among,
-            b,
-            votes,
-            rival_votes,
-        );
+        let on = bars(s, words, octets, n, set, signer, v, walks, among, b);
         mask = with_learner(mask, b, on);
         b += 1;
     }
@@ -338,40 +292,38 @@ pub fn opposing<'a>(
 
 // Whether b is among them and connected with a.
 fn is_against<'a>(
-    counts: &'a [u8],
+    s: &'a [u8],
     masks: &'a [Mask],
-    acceptors: u8,
     a: usize,
     b: usize,
     caught: Mask,
     against: u8,
 ) -> bool
-    requires { ⌜ (a < 8) × ((b < 8) × Sized (now counts) (now masks)) ⌝ }
-    ensures { λ r. ⌜ ((m : ℕ) → r ≡ (safeWithout (heldGraph acceptors m (now (counts .entry)) (now (masks .entry))) a b (has caught) && has against b)) ⌝ }
+    requires { ⌜ Graphed (now s) (now masks) × ((a < maxLearners) × (b < maxLearners)) ⌝ }
+    ensures { λ r. ⌜ r ≡ (safeWithout (graphOf (roundIn (now (s .entry)))) a b (has caught) && has against b) ⌝ }
 {
     if !has_learner(against, b) {
         return false;
     }
-    safe_without(counts, masks, acceptors, a, b, caught)
+    safe_for(s, masks, a, b, caught)
 }
 
-// Whether there is such a learner.
+// Whether there is such a learner among the first l.
 fn is_stale<'a>(
-    counts: &'a [u8],
+    s: &'a [u8],
     masks: &'a [Mask],
-    acceptors: u8,
     l: usize,
     a: usize,
     caught: Mask,
     against: u8,
 ) -> bool
-    requires { ⌜ (a < 8) × ((l ≤ 8) × Sized (now counts) (now masks)) ⌝ }
-    ensures { λ r. ⌜ ((m : ℕ) → r ≡ any (λ b. safeWithout (heldGraph acceptors m (now (counts .entry)) (now (masks .entry))) a b (has caught) && has against b) (below l)) ⌝ }
+    requires { ⌜ Graphed (now s) (now masks) × ((a < maxLearners) × (l ≤ maxLearners)) ⌝ }
+    ensures { λ r. ⌜ r ≡ any (λ b. safeWithout (graphOf (roundIn (now (s .entry)))) a b (has caught) && has against b) (below l) ⌝ }
 {
     let mut found = false;
     let mut b: usize = 0;
     while b < l {
-        found = is_against(counts, masks, acceptors, a, b, caught, against) | found;
+        found = is_against(s, masks, a, b, caught, against) | found;
         b += 1;
     }
     found
@@ -379,25 +331,25 @@ fn is_stale<'a>(
 
 // The first k learners.
 fn first_learners(k: usize) -> u8
-    requires { ⌜ k ≤ 8 ⌝ }
+    requires { ⌜ k ≤ maxLearners ⌝ }
     ensures { λ r. ⌜ ((q : ℕ) → has r q ≡ ltb q k) ⌝ }
 {
     ((1u32 << k) - 1) as u8
 }
 
-// The first k learners for which there is none: a 1b is fresh for them. Most often no learner is barred, and then it is fresh for all.
+// The first k learners for which there is none among the first l: a 1b is fresh for them. Most often no learner is barred, and then it is fresh for
+// all.
 pub fn fresh_for<'a>(
-    counts: &'a [u8],
+    s: &'a [u8],
     masks: &'a [Mask],
-    acceptors: u8,
     l: usize,
     k: usize,
     caught: Mask,
     against: u8,
 ) -> u8
-    requires { ⌜ (k ≤ 8) × ((l ≤ 8) × Sized (now counts) (now masks)) ⌝ }
-    ensures { λ r. ⌜ ((m q : ℕ) → has r q
-        ≡ any (λ a. not (any (λ b. safeWithout (heldGraph acceptors m (now (counts .entry)) (now (masks .entry))) a b (has caught) && has against b) (below l)) && eqb a q) (below k)) ⌝ }
+    requires { ⌜ Graphed (now s) (now masks) × ((k ≤ maxLearners) × (l ≤ maxLearners)) ⌝ }
+    ensures { λ r. ⌜ ((q : ℕ) → has r q
+        ≡ any (λ a. not (any (λ b. safeWithout (graphOf (roundIn (now (s .entry)))) a b (has caught) && has against b) (below l)) && eqb a q) (below k)) ⌝ }
 {
     if against == 0 {
         return first_learners(k);
@@ -405,36 +357,33 @@ pub fn fresh_for<'a>(
     let mut mask: u8 = 0;
     let mut a: usize = 0;
     while a < k {
-        let on = !is_stale(counts, masks, acceptors, l, a, caught, against);
+        let on = !is_stale(s, masks, l, a, caught, against);
         mask = with_learner(mask, a, on);
         a += 1;
     }
     mask
 }
 
+// ---- the learners of a 2a
 // The learners for which the 1b at place j is fresh, if it is in the set and of this ballot.
-fn fresh_at<'a>(
-    forms: &'a [u8],
-    fresh: &'a [u8],
-    tops: &'a [u64],
-    low: u64,
-    high: u64,
-    ballot: u64,
-    j: usize,
-) -> u8
-    requires { ⌜ (j < 128) × (Whole (now forms) × (Whole (now fresh) × Whole (now tops))) ⌝ }
-    ensures { λ r. ⌜ ((a : ℕ) → has r a ≡ isBacker (now (forms .entry)) (now (fresh .entry)) (now (tops .entry)) low high a ballot j) ⌝ }
+fn backed_at<'a>(words: &'a [u64], octets: &'a [u8], set: Places, ballot: u64, j: usize) -> u8
+    requires { ⌜ Lent (now words) (now octets) × (j < maxHeld) ⌝ }
+    ensures { λ r. ⌜ ((a : ℕ) → has r a ≡ isBacker (wordNotes (now (words .entry))) (byteNotes (now (octets .entry))) (set .low) (set .high) a ballot j) ⌝ }
 {
-    if (forms[j] != 1) | (tops[j] != ballot) {
+    if (form_at(octets, j) != 1) | (top_at(words, j) != ballot) {
         return 0;
     }
-    if has_place(low, high, j) { fresh[j] } else { 0 }
+    if has_place(set.low, set.high, j) {
+        fresh_at(octets, j)
+    } else {
+        0
+    }
 }
 
 // Acceptor p put into the sets of those of the first k learners that are in `to`.
 fn put_backer(sets: &mut [Mask], k: usize, to: u8, p: u8)
-    requires { ⌜ (k ≤ 8) × (length (now sets) ≡ 8) ⌝ }
-    ensures { λ _. ⌜ ((a q : ℕ) → a < k → q < 32 → has (getD (now (sets .exit)) a 0) q ≡ ((has to a && eqb p q) || has (getD (now (sets .entry)) a 0) q)) ⌝ }
+    requires { ⌜ (k ≤ maxLearners) × (length (now sets) ≡ maxLearners) ⌝ }
+    ensures { λ _. ⌜ ((a q : ℕ) → a < k → q < maskBits → has (getD (now (sets .exit)) a 0) q ≡ ((has to a && eqb p q) || has (getD (now (sets .entry)) a 0) q)) ⌝ }
 {
     if to == 0 {
         return;
@@ -451,28 +400,24 @@ fn put_backer(sets: &mut [Mask], k: usize, to: u8, p: u8)
 // For each of the first k learners, the signers of the 1bs of this ballot that are fresh for it, in the set and among the first n places.
 // The walk has the places of all these 1bs.
 fn backers<'a>(
-    forms: &'a [u8],
-    fresh: &'a [u8],
-    tops: &'a [u64],
-    signers: &'a [u8],
+    s: &'a [u8],
+    words: &'a [u64],
+    octets: &'a [u8],
     k: usize,
     n: usize,
-    low: u64,
-    high: u64,
+    set: Places,
     ballot: u64,
     walk: Places,
-) -> [Mask; 8]
-    requires { ⌜ (k ≤ 8) × ((n ≤ 128) × (Whole (now forms) × (Whole (now fresh) × (Whole (now tops) × (Whole (now signers)
-        × ((a : ℕ) → Covers n (isBacker (now forms) (now fresh) (now tops) low high a ballot) (walk .low) (walk .high))))))) ⌝ }
-    ensures { λ r. ⌜ (length r ≡ 8) × ((a p : ℕ) → a < k → p < 32 → has (getD r a 0) p
-        ≡ backedBy (now (forms .entry)) (now (fresh .entry)) (now (tops .entry)) (now (signers .entry)) n low high ballot a p) ⌝ }
+) -> [Mask; MAX_LEARNERS]
+    requires { ⌜ Backing (now s) (now words) (now octets) n set ballot walk × (k ≤ maxLearners) ⌝ }
+    ensures { λ r. ⌜ (length r ≡ maxLearners) × ((a p : ℕ) → a < k → p < maskBits → has (getD r a 0) p ≡ backedBy (roundIn (now (s .entry))) (wordNotes (now (words .entry))) (byteNotes (now (octets .entry))) n (set .low) (set .high) ballot a p) ⌝ }
 {
-    let mut sets = [0u32; 8];
+    let mut sets = [0u32; MAX_LEARNERS];
     let mut rest = walk;
     let mut j: usize = first_in(rest.low, rest.high, n);
     while j < n {
-        let to = fresh_at(forms, fresh, tops, low, high, ballot, j);
-        put_backer(&mut sets, k, to, signers[j]);
+        let to = backed_at(words, octets, set, ballot, j);
+        put_backer(&mut sets, k, to, signer_at(s, j));
         rest = without_first(rest.low, rest.high);
         j = first_in(rest.low, rest.high, n);
     }
@@ -481,33 +426,27 @@ fn backers<'a>(
 
 // The first k learners for which they are a quorum: those of a 2a. Where k is 0, no place is gone through.
 pub fn learners_for<'a>(
-    counts: &'a [u8],
+    s: &'a [u8],
     masks: &'a [Mask],
-    forms: &'a [u8],
-    fresh: &'a [u8],
-    tops: &'a [u64],
-    signers: &'a [u8],
-    acceptors: u8,
+    words: &'a [u64],
+    octets: &'a [u8],
     k: usize,
     n: usize,
-    low: u64,
-    high: u64,
+    set: Places,
     ballot: u64,
     walk: Places,
 ) -> u8
-    requires { ⌜ (acceptors ≤ 32) × (Sized (now counts) (now masks) × ((k ≤ 8) × ((n ≤ 128) × (Whole (now forms) × (Whole (now fresh) × (Whole (now tops) × (Whole (now signers)
-        × ((a : ℕ) → Covers n (isBacker (now forms) (now fresh) (now tops) low high a ballot) (walk .low) (walk .high))))))))) ⌝ }
-    ensures { λ r. ⌜ ((m q : ℕ) → has r q ≡ any (λ a. isQuorum (heldGraph acceptors m (now (counts .entry)) (now (masks .entry))) a
-        (backedBy (now (forms .entry)) (now (fresh .entry)) (now (tops .entry)) (now (signers .entry)) n low high ballot a) && eqb a q) (below k)) ⌝ }
+    requires { ⌜ Graphed (now s) (now masks) × (Backing (now s) (now words) (now octets) n set ballot walk × (k ≤ maxLearners)) ⌝ }
+    ensures { λ r. ⌜ ((q : ℕ) → has r q ≡ any (λ a. isQuorum (graphOf (roundIn (now (s .entry)))) a (backedBy (roundIn (now (s .entry))) (wordNotes (now (words .entry))) (byteNotes (now (octets .entry))) n (set .low) (set .high) ballot a) && eqb a q) (below k)) ⌝ }
 {
     if k == 0 {
         return 0;
     }
-    let sets = backers(forms, fresh, tops, signers, k, n, low, high, ballot, walk);
+    let sets = backers(s, words, octets, k, n, set, ballot, walk);
     let mut mask: u8 = 0;
     let mut a: usize = 0;
     while a < k {
-        let on = is_quorum(counts, masks, acceptors, a, sets[a]);
+        let on = quorum_of(s, masks, a, sets[a]);
         mask = with_learner(mask, a, on);
         a += 1;
     }

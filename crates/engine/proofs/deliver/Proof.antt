@@ -1,14 +1,15 @@
-use lib.ListN.{length}
 use borrow.Author.Tests.{lt-ltb}
-use Rattle.engine.specs.Calls.{deliverAnswer, deliverTo, replyTo}
-use Rattle.engine.proofs.InBuffer.{answers}
+use lib.ListN.{length}
 use borrow.Author.Needs.{needs}
+use Rattle.engine.specs.Calls.{deliverAnswer, deliverTo, replyTo}
+use Rattle.roundbytes.specs.Layout.{roundLen}
+use Rattle.engine.proofs.InBuffer.{answers}
 use Rattle.engine.proofs.deliver.Statement.{statement}
 use Rattle.engine.proofs.deliver.Tie as tie
 
 returns : tie.Need-returns
 unfolding deliverAnswer deliverTo replyTo
-returns c = let short = lt-ltb (length (c .before .before .before .before .args .s .now)) 23734 (c .if1 .taken) in (simp short, (simp short, simp short))
+returns c = let short = lt-ltb (length (c .before .before .before .before .args .s .now)) roundLen (c .if1 .taken) in (simp short, (simp short, simp short))
 
 deliver-in-requires : tie.Need-deliver-in-requires
 deliver-in-requires c κs = search needs

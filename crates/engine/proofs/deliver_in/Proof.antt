@@ -1,20 +1,21 @@
-use mathlib.Core.Path.{_≡_, refl, ap, sym, subst, _∙_}
-use mathlib.Core.Bool.{true, not}
-use lib.Dec.{T}
+use borrow.Author.Needs.{needs}
+use mathlib.Core.Path.{ap, sym, _∙_, refl, _≡_, subst}
+use mathlib.Core.Bool.{not, true}
 use lib.ListN.{length}
 use borrow.Author.Tests.{not-false}
-use Rattle.base.specs.declared.refusal.Refusal.the-variants.{Argument}
-use Rattle.digest.specs.Sha256.{sha256}
-use Rattle.message.specs.declared.Reading.the-variants as reading
-use Rattle.protocol.specs.Ids.{Id}
-use Rattle.round.specs.declared.Outcome.the-variants.{Refused}
-use Rattle.round.specs.Handed.{fits}
-use Rattle.round.specs.Rows.{previousId, referenceIds}
-use Rattle.round.specs.Delivery.{proposalTaken, acceptorTaken}
+use lib.Dec.{T}
 use Rattle.roundbytes.specs.Layout.{roundIn}
-use Rattle.answering.specs.Giving.{Gives, left}
-use Rattle.engine.proofs.Delivering.{misfit, short, let-in, unread, told}
-use borrow.Author.Needs.{needs}
+use Rattle.answering.specs.Giving.{left, Gives}
+use Rattle.round.specs.declared.Outcome.the-variants.{Refused}
+use Rattle.base.specs.declared.refusal.Refusal.the-variants.{Argument}
+use Rattle.engine.proofs.Delivering.{told, misfit, short, let-in, unread}
+use Rattle.digest.specs.Sha256.{sha256}
+use Rattle.message.specs.Layout.{idLen}
+use Rattle.round.specs.Handed.{fits}
+use Rattle.protocol.specs.Ids.{Id}
+use Rattle.round.specs.Delivery.{proposalTaken, acceptorTaken}
+use Rattle.round.specs.Rows.{previousId, referenceIds}
+use Rattle.message.specs.declared.Reading.the-variants as reading
 use Rattle.engine.proofs.deliver_in.Statement.{statement}
 use Rattle.engine.proofs.deliver_in.Tie as tie
 
@@ -64,13 +65,13 @@ slice-aggregate-take-proposal c = search needs
 
 take-proposal-requires : tie.Need-take-proposal-requires
 take-proposal-requires c κs =
-    let long : length (c .before .before .before .sha256 .result) ≡ 32 = search needs in
+    let long : length (c .before .before .before .sha256 .result) ≡ idLen = search needs in
     let a = c .before .before .before .before .before .before .before .before .before .before .before .before .before .before .before .args in
     let p = c .before .before .before .before .before .before .before .before .before .before .before .before .before .before .before .pre in
     let s = a .s .now in
     let r = roundIn s in
     let t : fits r ≡ true = sym (c .before .before .before .before .before .before .before .before .before .before .fits2 .ensures) ∙ not-false _ (c .before .before .before .before .before .before .before .before .before .if1 .left) in
-    (p, (subst T (sym t) tt, (long, c .before .before .before .before .before .before .before .before .if2 .left)))
+    record { passes = record { long = p; fit = subst T (sym t) tt }; id-bytes = long; long = c .before .before .before .before .before .before .before .before .if2 .left }
 
 enum-known-m-2 : tie.Need-enum-known-m-2
 enum-known-m-2 c = search needs
@@ -83,13 +84,13 @@ slice-aggregate-take-vote c = search needs
 
 take-vote-requires : tie.Need-take-vote-requires
 take-vote-requires c κs =
-    let long : length (c .before .before .before .sha2562 .result) ≡ 32 = search needs in
+    let long : length (c .before .before .before .sha2562 .result) ≡ idLen = search needs in
     let a = c .before .before .before .before .before .before .before .before .before .before .before .before .before .before .before .args in
     let p = c .before .before .before .before .before .before .before .before .before .before .before .before .before .before .before .pre in
     let s = a .s .now in
     let r = roundIn s in
     let t : fits r ≡ true = sym (c .before .before .before .before .before .before .before .before .before .before .fits2 .ensures) ∙ not-false _ (c .before .before .before .before .before .before .before .before .before .if1 .left) in
-    (p, (subst T (sym t) tt, (long, (sym (c .before .before .before .before .before .before .before .read .ensures) ∙ c .before .before .before .before .before .m2 .given .1, c .before .before .before .before .before .before .before .before .if2 .left))))
+    (record { passes = record { long = p; fit = subst T (sym t) tt }; id-bytes = long; long = c .before .before .before .before .before .before .before .before .if2 .left }, sym (c .before .before .before .before .before .before .before .read .ensures) ∙ c .before .before .before .before .before .m2 .given .1)
 
 same-length-3 : tie.Need-same-length-3
 same-length-3 c = search needs

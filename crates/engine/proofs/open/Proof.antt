@@ -1,14 +1,15 @@
-use lib.ListN.{length}
 use borrow.Author.Tests.{lt-ltb}
-use Rattle.engine.specs.Calls.{openAnswer, openTo}
-use Rattle.engine.proofs.Opening.{opens, opens-not}
+use lib.ListN.{length}
 use borrow.Author.Needs.{needs}
+use Rattle.engine.specs.Calls.{openAnswer, openTo}
+use Rattle.roundbytes.specs.Layout.{roundLen}
+use Rattle.engine.proofs.Opening.{opens, opens-not}
 use Rattle.engine.proofs.open.Statement.{statement}
 use Rattle.engine.proofs.open.Tie as tie
 
 returns : tie.Need-returns
 unfolding openAnswer openTo
-returns c = let short = lt-ltb (length (c .before .before .before .args .s .now)) 23734 (c .if1 .taken) in (simp short, simp short)
+returns c = let short = lt-ltb (length (c .before .before .before .args .s .now)) roundLen (c .if1 .taken) in (simp short, simp short)
 
 read-requires : tie.Need-read-requires
 read-requires c κs = search needs

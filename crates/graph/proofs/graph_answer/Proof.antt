@@ -7,7 +7,7 @@ use Rattle.base.specs.declared.refusal.Refusal.the-variants.{NotValid, NotConde
 use Rattle.graph.specs.declared.Answer.the-variants.{Accepted, Refused}
 use Rattle.graph.specs.LearnerGraph.{LearnerGraph, valid, condensed}
 use Rattle.graph.specs.Answers.{graphAnswer}
-use Rattle.graph.specs.Held.{heldGraph}
+use Rattle.graph.specs.Memory.{heldGraph}
 use Rattle.graph.proofs.graph_answer.Statement.{statement}
 use Rattle.graph.proofs.graph_answer.Tie as tie
 

@@ -1,7 +1,7 @@
 use mathlib.Core.Path.{ap, _∙_}
 use Prim.Native.Nat.{_-_}
 use Rattle.graphfile.specs.declared.Reading.{Reading}
-use Rattle.graphfile.proofs.Whole.{reading-answer}
+use Rattle.graphfile.proofs.Files.{reading-answer}
 use borrow.Author.Needs.{needs}
 use Rattle.graphfile.proofs.check.Statement.{statement}
 use Rattle.graphfile.proofs.check.Tie as tie

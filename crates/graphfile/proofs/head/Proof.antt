@@ -2,8 +2,9 @@ use mathlib.Core.Path.{sym, _∙_}
 use Prim.Native.Nat.{_-_}
 use native.Mathlib.Omega.{arith}
 use Rattle.graph.specs.Limits.{maxAcceptors, maxLearners}
+use Rattle.graphfile.specs.File.{acceptorsAt, learnersAt}
 use Rattle.graphfile.proofs.Reader.{count-is}
-use Rattle.graphfile.proofs.Whole.{length-wrong, version-absent, version-wrong, acceptors-no, learners-no, lists-behind}
+use Rattle.graphfile.proofs.Files.{length-wrong, version-absent, version-wrong, acceptors-no, learners-no, lists-behind}
 use borrow.Author.Needs.{needs}
 use Rattle.graphfile.proofs.head.Statement.{statement}
 use Rattle.graphfile.proofs.head.Tie as tie
@@ -76,11 +77,9 @@ returns-7 c =
     let s = c .before .before .before .before .before .before .before .before .before .before .before .before .before .args .file .now in
     let w = c .before .before .before .before .before .before .before .before .before .before .read16 .ensures in
     let g = c .before .before .before .before .before .before .before .before .before .if2 .left in
-    let (i, lo, hi, v, r) = count-is s 1 maxAcceptors 3 (c .before .before .before .enum-told .given .0 .0) (sym (c .before .before .before .before .before .read-count .ensures) ∙ c .before .before .before .enum-told .given .1) in
-    let (i′, lo′, hi′, v′, r′) = count-is s 1 maxLearners 4 (c .enum-told2 .given .0 .0) (sym (c .before .before .read-count2 .ensures) ∙ c .enum-told2 .given .1) in (
-      omega arith,
-      omega arith,
-      omega arith,
+    let (i, lo, hi, v, r) = count-is s 1 maxAcceptors acceptorsAt (c .before .before .before .enum-told .given .0 .0) (sym (c .before .before .before .before .before .read-count .ensures) ∙ c .before .before .before .enum-told .given .1) in
+    let (i′, lo′, hi′, v′, r′) = count-is s 1 maxLearners learnersAt (c .enum-told2 .given .0 .0) (sym (c .before .before .read-count2 .ensures) ∙ c .enum-told2 .given .1) in (
+      record { short = omega arith; inside = omega arith; acceptors = omega arith },
       omega arith,
       lists-behind s (omega arith) (omega (arith, c .before .before .before .before .before .before .before .before .if3 .left)) (c .before .before .before .before .before .before .if4 .left) (c .before .before .before .enum-told .given .0 .0) (sym (c .before .before .before .before .before .read-count .ensures) ∙ c .before .before .before .enum-told .given .1)
           (c .enum-told2 .given .0 .0) (sym (c .before .before .read-count2 .ensures) ∙ c .enum-told2 .given .1),

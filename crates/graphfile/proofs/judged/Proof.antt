@@ -1,8 +1,8 @@
 use mathlib.Core.Path.{ap, sym, _∙_}
 use Prim.Native.Nat.{ℕ, _-_}
 use Rattle.graph.specs.Answers.{graphAnswer}
-use Rattle.graph.specs.Held.{heldGraph}
-use Rattle.graphfile.specs.Held.{answeredReading}
+use Rattle.graph.specs.Memory.{heldGraph}
+use Rattle.graphfile.specs.Arrays.{answeredReading}
 use borrow.Author.Needs.{needs}
 use Rattle.graphfile.proofs.judged.Statement.{statement}
 use Rattle.graphfile.proofs.judged.Tie as tie

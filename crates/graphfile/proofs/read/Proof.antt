@@ -1,6 +1,6 @@
 use mathlib.Core.Path.{_∙_}
 use Prim.Native.Nat.{_-_}
-use Rattle.graphfile.proofs.Whole.{held-file, held-refused}
+use Rattle.graphfile.proofs.Files.{held-file, held-refused}
 use borrow.Author.Needs.{needs}
 use Rattle.graphfile.proofs.read.Statement.{statement}
 use Rattle.graphfile.proofs.read.Tie as tie

@@ -4,6 +4,8 @@ use Rattle.roundbytes.proofs.Empty.{empty-written}
 use borrow.Author.Needs.{needs}
 use Rattle.roundbytes.proofs.put_empty.Statement.{statement}
 use Rattle.roundbytes.proofs.put_empty.Tie as tie
+use Rattle.graph.specs.Limits.{lists, maxMasks}
+use Prim.Native.Nat.{_*_}
 
 put-graph-requires : tie.Need-put-graph-requires
 put-graph-requires c κs = search needs
@@ -20,8 +22,8 @@ same-length c = search needs
 returns : tie.Need-returns
 returns c =
     let a = c .before .before .before .before .before .before .before .before .before .before .before .before .before .args in
-    let counts : length (a .graph .counts) ≡ 44 = search needs in
-    let masks : length (a .graph .masks) ≡ 352 = search needs in
+    let counts : length (a .graph .counts) ≡ lists = search needs in
+    let masks : length (a .graph .masks) ≡ (maxMasks * lists) = search needs in
     empty-written (a .graph) (a .house) (a .bay) (a .own) 255 (a .s .now) (c .before .before .before .before .before .before .before .before .before .before .put-graph .last .1 .0) (c .before .before .before .before .before .before .put-numbers .last .0) (c .before .before .put-zeros .last .0) counts masks
     (c .before .before .before .before .before .before .before .before .before .before .put-graph .ensures) (c .before .before .before .before .before .before .put-numbers .ensures) (c .before .before .put-zeros .ensures)
 

@@ -7,7 +7,7 @@ use lib.ListN.{length, getD, take}
 use lib.Seq.{length-take-le, take-length, take-suc}
 use Rattle.base.specs.Bytes.{bytes, putAt}
 use Rattle.base.proofs.Bytes.{putAt-none, putAt-more}
-use Rattle.roundbytes.specs.Layout.{words}
+use Rattle.roundbytes.specs.Layout.{words, masksAt}
 use Rattle.roundbytes.proofs.RoundBytes.{words-snoc, words-length}
 use borrow.Author.Needs.{needs}
 use native.Mathlib.Omega.{arith}
@@ -15,14 +15,14 @@ use Rattle.roundbytes.proofs.put_masks.Statement.{statement}
 use Rattle.roundbytes.proofs.put_masks.Tie as tie
 
 abbrev Inv-loop : tie.InvT-loop
-Inv-loop buf₀ masks i₀ buf i = (i ≤ length masks) × ((length buf ≡ length buf₀) × (buf ≡ putAt buf₀ 46 (words 4 (take i masks))))
+Inv-loop buf₀ masks i₀ buf i = (i ≤ length masks) × ((length buf ≡ length buf₀) × (buf ≡ putAt buf₀ masksAt (words 4 (take i masks))))
 
 abbrev μ-loop : tie.MeasureT-loop
 μ-loop buf₀ masks i₀ buf i = length masks - i
 
 loop-holds : tie.Need-loop-holds Inv-loop μ-loop
 unfolding words
-loop-holds c = (omega arith, (refl, putAt-none (c .before .before .args .buf .now) 46))
+loop-holds c = (omega arith, (refl, putAt-none (c .before .before .args .buf .now) masksAt))
 
 mul-put32 : tie.Need-mul-put32 Inv-loop μ-loop
 mul-put32 c = search needs
@@ -56,10 +56,10 @@ loop-again c = let b = c .before .before .before .before .before .before .before
       omega arith,
       (
         search needs,
-        putAt-more b (l .buf) (c .before .before .put32 .last .0) (words 4 t) (bytes 4 x) 46 (46 + 4 * l .i) (omega arith) (omega arith) (l .inv .1 .1) (c .before .before .put32 .ensures)
-            ∙ ap (putAt b 46) (sym (words-snoc 4 t x))
-            ∙ ap (λ (y : List ℕ). putAt b 46 (words 4 y)) (sym (take-suc v (l .i) 0 (omega arith)))
-            ∙ sym (ap (λ (n : ℕ). putAt b 46 (words 4 (take n v))) (add-one (l .i))),
+        putAt-more b (l .buf) (c .before .before .put32 .last .0) (words 4 t) (bytes 4 x) masksAt (masksAt + 4 * l .i) (omega arith) (omega arith) (l .inv .1 .1) (c .before .before .put32 .ensures)
+            ∙ ap (putAt b masksAt) (sym (words-snoc 4 t x))
+            ∙ ap (λ (y : List ℕ). putAt b masksAt (words 4 y)) (sym (take-suc v (l .i) 0 (omega arith)))
+            ∙ sym (ap (λ (n : ℕ). putAt b masksAt (words 4 (take n v))) (add-one (l .i))),
       ),
     )
 
@@ -71,7 +71,7 @@ returns c = let b = c .before .before .before .before .args .buf .now in
     let v = c .before .before .before .before .args .masks .now in
     let l = c .before .loop in
     let e : l .i ≡ length v = omega arith in
-    l .inv .1 .1 ∙ ap (λ (n : ℕ). putAt b 46 (words 4 (take n v))) e ∙ ap (λ (y : List ℕ). putAt b 46 (words 4 y)) (take-length v)
+    l .inv .1 .1 ∙ ap (λ (n : ℕ). putAt b masksAt (words 4 (take n v))) e ∙ ap (λ (y : List ℕ). putAt b masksAt (words 4 y)) (take-length v)
 
 pub put-masks-spec : {M : Type 1} → statement M
 put-masks-spec =

@@ -6,6 +6,7 @@ use borrow.Author.Needs.{needs}
 use native.Mathlib.Omega.{arith}
 use Rattle.roundbytes.proofs.put_numbers.Statement.{statement}
 use Rattle.roundbytes.proofs.put_numbers.Tie as tie
+use Rattle.roundbytes.specs.Layout.{houseAt, bayAt, ownAt, heldAt, lastAt}
 
 put16-requires : tie.Need-put16-requires
 put16-requires c κs = search needs
@@ -32,10 +33,10 @@ returns c = let a = c .before .before .before .before .before .before .before .b
     let h = bytes 2 (a .house) in
     let y = bytes 2 (a .bay) in
     let o = bytes 2 (a .own) in
-    let m₂ = putAt-more b (c .before .before .before .before .before .before .before .before .before .before .before .before .before .before .before .before .before .before .put16 .last .0) (c .before .before .before .before .before .before .before .before .before .before .before .before .before .before .put162 .last .0) h y 1454 1456 (omega arith) refl (c .before .before .before .before .before .before .before .before .before .before .before .before .before .before .before .before .before .before .put16 .ensures) (c .before .before .before .before .before .before .before .before .before .before .before .before .before .before .put162 .ensures) in
-    let m₃ = putAt-more b (c .before .before .before .before .before .before .before .before .before .before .before .before .before .before .put162 .last .0) (c .before .before .before .before .before .before .before .before .before .before .put163 .last .0) (h ++ y) o 1454 1458 (omega arith) refl m₂ (c .before .before .before .before .before .before .before .before .before .before .put163 .ensures) in
-    let m₄ = putAt-more b (c .before .before .before .before .before .before .before .before .before .before .put163 .last .0) (c .before .before .before .before .before .before .put8 .last .0) (h ++ y ++ o) (a .held ∷ []) 1454 1460 (omega arith) refl m₃ (c .before .before .before .before .before .before .put8 .ensures) in
-    putAt-more b (c .before .before .before .before .before .before .put8 .last .0) (c .before .before .put82 .last .0) (h ++ y ++ o ++ (a .held ∷ [])) (a .last ∷ []) 1454 1461 (omega arith) refl m₄ (c .before .before .put82 .ensures)
+    let m₂ = putAt-more b (c .before .before .before .before .before .before .before .before .before .before .before .before .before .before .before .before .before .before .put16 .last .0) (c .before .before .before .before .before .before .before .before .before .before .before .before .before .before .put162 .last .0) h y houseAt bayAt (omega arith) refl (c .before .before .before .before .before .before .before .before .before .before .before .before .before .before .before .before .before .before .put16 .ensures) (c .before .before .before .before .before .before .before .before .before .before .before .before .before .before .put162 .ensures) in
+    let m₃ = putAt-more b (c .before .before .before .before .before .before .before .before .before .before .before .before .before .before .put162 .last .0) (c .before .before .before .before .before .before .before .before .before .before .put163 .last .0) (h ++ y) o houseAt ownAt (omega arith) refl m₂ (c .before .before .before .before .before .before .before .before .before .before .put163 .ensures) in
+    let m₄ = putAt-more b (c .before .before .before .before .before .before .before .before .before .before .put163 .last .0) (c .before .before .before .before .before .before .put8 .last .0) (h ++ y ++ o) (a .held ∷ []) houseAt heldAt (omega arith) refl m₃ (c .before .before .before .before .before .before .put8 .ensures) in
+    putAt-more b (c .before .before .before .before .before .before .put8 .last .0) (c .before .before .put82 .last .0) (h ++ y ++ o ++ (a .held ∷ [])) (a .last ∷ []) houseAt lastAt (omega arith) refl m₄ (c .before .before .put82 .ensures)
 
 pub put-numbers-spec : {M : Type 1} → statement M
 put-numbers-spec =

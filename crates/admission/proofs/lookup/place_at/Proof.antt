@@ -1,55 +1,69 @@
 -- The invariant: no place below p has the id.
-use mathlib.Core.Path.{_≡_, refl, ap, sym, _∙_}
-use mathlib.Core.Bool.{Bool, false}
-use mathlib.Core.Logic.{⊎-elim}
-use mathlib.Core.Option.{none}
 use mathlib.Core.List.{List}
-use Prim.Native.Nat.{ℕ, _-_, _*_, _≤_}
-use native.Mathlib.Numerals.{add-one}
-use Rattle.base.specs.Bytes.{part}
-use Rattle.protocol.specs.Ids.{sameId}
-use Rattle.round.specs.Held.{lowest}
-use Rattle.admission.specs.Lent.{foundOf}
-use Rattle.admission.proofs.Lent.{first-differs, lowest-miss, lowest-hit}
+use Prim.Native.Nat.{ℕ, _≤_, _<_, _+_, _*_, _-_}
+use lib.ListN.{length}
+use mathlib.Core.Path.{_≡_, ap, sym, refl, _∙_}
+use mathlib.Core.Option.{none}
 use borrow.Author.Needs.{needs}
 use native.Mathlib.Omega.{arith}
+use mathlib.Core.Bool.{true, false}
+use mathlib.Core.Logic.{⊎-elim}
+use native.Mathlib.Numerals.{add-one}
+use Rattle.protocol.specs.Ids.{Id, sameId}
+use Rattle.roundbytes.specs.Layout.{roundLen, roundIn, idsAt}
+use Rattle.round.specs.Limits.{maxHeld}
+use Rattle.admission.proofs.Finding.{hasId, place-lowest, lowest-hit, first-differs, lowest-miss}
+use Rattle.base.specs.Bytes.{part}
+use Rattle.message.specs.Layout.{idLen}
+use Rattle.roundbytes.proofs.Fields.{id-at, id-within}
+use Rattle.round.specs.Holdings.{lowest}
 use Rattle.admission.proofs.lookup.place_at.Statement.{statement}
 use Rattle.admission.proofs.lookup.place_at.Tie as tie
 
--- place p has the id
-abbrev has : List ℕ → List ℕ → ℕ → ℕ → Bool
-has ids bytes at p = sameId (part 32 ids (32 * p)) (part 32 bytes at)
+-- an id of the round is compared where it stands
+same-here : (s : List ℕ) (p : ℕ) (i : Id) → roundLen ≤ length s → p < maxHeld → hasId (roundIn s) i p ≡ sameId (part idLen s (idsAt + idLen * p)) i
+same-here s p i n h = ap (λ (x : Id). sameId x i) (sym (id-at s p n h))
 
 abbrev Inv-loop : tie.InvT-loop
-Inv-loop ids held bytes at first p₀ p = (p ≤ held) × (lowest (has ids bytes at) p ≡ none)
+Inv-loop s bytes at held first p₀ p = (p ≤ held) × ((held ≤ maxHeld) × (lowest (hasId (roundIn s) (part idLen bytes at)) p ≡ none))
 
 abbrev μ-loop : tie.MeasureT-loop
-μ-loop ids held bytes at first p₀ p = held - p
+μ-loop s bytes at held first p₀ p = held - p
+
+held-of-requires : tie.Need-held-of-requires Inv-loop μ-loop
+held-of-requires c κs = search needs
 
 read64-requires : tie.Need-read64-requires Inv-loop μ-loop
 read64-requires c κs = search needs
 
 loop-holds : tie.Need-loop-holds Inv-loop μ-loop
 unfolding lowest
-loop-holds c = (omega arith, refl)
+loop-holds c =
+    let w = c .before .before .before .before .pre .0 in
+    let n = c .before .held-of .ensures .0 in
+    (omega arith, (omega (arith, w .most), refl))
 
-mul-read64 : tie.Need-mul-read64 Inv-loop μ-loop
-mul-read64 c = search needs
+mul-here : tie.Need-mul-here Inv-loop μ-loop
+mul-here c = search needs
+
+add-here : tie.Need-add-here Inv-loop μ-loop
+add-here c = search needs
 
 read64-requires-2 : tie.Need-read64-requires-2 Inv-loop μ-loop
 read64-requires-2 c κs = search needs
-
-mul-same-rest : tie.Need-mul-same-rest Inv-loop μ-loop
-mul-same-rest c = search needs
 
 same-rest-requires : tie.Need-same-rest-requires Inv-loop μ-loop
 same-rest-requires c κs = search needs
 
 returns : tie.Need-returns Inv-loop μ-loop
 returns c =
-    let a = c .before .before .before .before .before .before .before .before .before .args in
+    let a = c .before .before .before .before .before .before .before .before .before .before .args in
     let l = c .before .before .before .before .before .loop in
-    sym (ap foundOf (lowest-hit (has (a .ids .now) (a .bytes .now) (a .at)) (l .p) (a .held) (omega arith) (l .inv .1) (sym (c .before .same-rest .ensures) ∙ c .if2 .taken)))
+    let r = roundIn (a .s .now) in
+    let i = part idLen (a .bytes .now) (a .at) in
+    let n = c .before .before .before .before .before .before .before .held-of .ensures .0 in
+    let here : hasId r i (l .p) ≡ true = same-here (a .s .now) (l .p) i (c .before .before .before .before .before .before .before .before .before .before .pre .0 .long) (omega arith) ∙ sym (c .before .same-rest .ensures) ∙ c .if2 .taken in
+    sym (place-lowest r i ∙ lowest-hit (hasId r i) (l .p) (r .held) (omega arith) (l .inv .1 .1) here)
 
 add-p : tie.Need-add-p Inv-loop μ-loop
 add-p c = search needs
@@ -59,22 +73,27 @@ loop-less c = search needs
 
 loop-again : tie.Need-loop-again Inv-loop μ-loop
 loop-again c =
-    let a = c .before .before .before .before .before .before .before .args in
+    let a = c .before .before .before .before .before .before .before .before .args in
     let l = c .before .before .before .loop in
-    let f = has (a .ids .now) (a .bytes .now) (a .at) in
-    let not-here : f (l .p) ≡ false = ⊎-elim (λ w. sym (w .1 .ensures) ∙ w .2 .left)
-    (λ w. first-differs (a .ids .now) (a .bytes .now) (λ k. omega (arith, c .before .before .before .before .before .before .shared-slice-known .given k)) (λ k. omega (arith, c .before .before .before .before .before .shared-slice-known2 .given k))
-    (32 * l .p) (a .at) (omega arith) (omega arith) (λ e. omega arith)) (c .if1 .came) in (
-      omega arith,
-      ap (lowest f) (add-one (l .p)) ∙ lowest-miss f (l .p) (l .inv .1) not-here,
-    )
+    let r = roundIn (a .s .now) in
+    let i = part idLen (a .bytes .now) (a .at) in
+    let n = c .before .before .before .before .before .held-of .ensures .0 in
+    let long = c .before .before .before .before .before .before .before .before .pre .0 .long in
+    let within = id-within (a .s .now) (l .p) long (omega arith) in
+    let not-here : hasId r i (l .p) ≡ false = same-here (a .s .now) (l .p) i long (omega arith) ∙ ⊎-elim (λ w. sym (w .1 .ensures) ∙ w .2 .left)
+    (λ w. first-differs (a .s .now) (a .bytes .now) (λ k. omega (arith, c .before .before .before .before .before .before .before .shared-slice-known .given k)) (λ k. omega (arith, c .before .before .before .before .before .before .shared-slice-known2 .given k))
+    (idsAt + idLen * l .p) (a .at) within (c .before .before .before .before .before .before .before .before .pre .1) (λ e. omega arith)) (c .if1 .came) in
+    (omega arith, (l .inv .1 .0, ap (lowest (hasId r i)) (add-one (l .p)) ∙ lowest-miss (hasId r i) (l .p) (l .inv .1 .1) not-here))
 
 returns-2 : tie.Need-returns-2 Inv-loop μ-loop
 returns-2 c =
-    let a = c .before .before .before .before .before .args in
+    let a = c .before .before .before .before .before .before .args in
     let l = c .before .loop in
-    let e : l .p ≡ a .held = omega arith in
-    sym (ap foundOf (sym (ap (lowest (has (a .ids .now) (a .bytes .now) (a .at))) e) ∙ l .inv .1))
+    let r = roundIn (a .s .now) in
+    let i = part idLen (a .bytes .now) (a .at) in
+    let n = c .before .before .before .held-of .ensures .0 in
+    let e : l .p ≡ r .held = omega arith in
+    sym (place-lowest r i ∙ sym (ap (lowest (hasId r i)) e) ∙ l .inv .1 .1)
 
 pub place-at-spec : {M : Type 1} → statement M
 place-at-spec =
@@ -82,11 +101,12 @@ place-at-spec =
     (tie.spec
     Inv-loop
     μ-loop
+    held-of-requires
     read64-requires
     loop-holds
-    mul-read64
+    mul-here
+    add-here
     read64-requires-2
-    mul-same-rest
     same-rest-requires
     returns
     add-p

@@ -1,7 +1,7 @@
 use mathlib.Core.Path.{sym}
 use borrow.Author.Needs.{needs}
 use native.Mathlib.Omega.{arith}
-use Rattle.admission.proofs.Lent.{first-differs}
+use Rattle.admission.proofs.Finding.{first-differs}
 use Rattle.admission.proofs.lookup.same_id.Statement.{statement}
 use Rattle.admission.proofs.lookup.same_id.Tie as tie
 

@@ -3,7 +3,7 @@ use Prim.Native.Nat.{_+_}
 use lib.Dec.{eqb}
 use borrow.Author.Tests.{eq-eqb, ne-eqb}
 use Rattle.base.specs.Bytes.{be}
-use Rattle.admission.proofs.Lent.{same-words}
+use Rattle.admission.proofs.Finding.{same-words}
 use borrow.Author.Needs.{needs}
 use native.Mathlib.Omega.{arith}
 use Rattle.admission.proofs.lookup.same_rest.Statement.{statement}

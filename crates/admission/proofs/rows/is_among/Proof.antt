@@ -3,16 +3,17 @@ use mathlib.Core.Path.{_≡_, ap, sym, _∙_}
 use Prim.Native.Nat.{ℕ, _+_, _-_, _*_, _≤_}
 use Rattle.base.specs.Bytes.{part}
 use Rattle.base.specs.Tests.{any}
+use Rattle.message.specs.Layout.{idLen}
 use Rattle.protocol.specs.Ids.{sameId}
 use Rattle.round.specs.Rows.{idsFrom}
-use Rattle.admission.proofs.Lent.{ids-step}
+use Rattle.admission.proofs.Finding.{ids-step}
 use borrow.Author.Needs.{needs}
 use native.Mathlib.Omega.{arith}
 use Rattle.admission.proofs.rows.is_among.Statement.{statement}
 use Rattle.admission.proofs.rows.is_among.Tie as tie
 
 abbrev Inv-loop : tie.InvT-loop
-Inv-loop bytes at first count i₀ i = (i ≤ count) × (any (sameId (part 32 bytes at)) (idsFrom count bytes first) ≡ any (sameId (part 32 bytes at)) (idsFrom (count - i) bytes (first + 32 * i)))
+Inv-loop bytes at first count i₀ i = (i ≤ count) × (any (sameId (part idLen bytes at)) (idsFrom count bytes first) ≡ any (sameId (part idLen bytes at)) (idsFrom (count - i) bytes (first + idLen * i)))
 
 abbrev μ-loop : tie.MeasureT-loop
 μ-loop bytes at first count i₀ i = count - i
@@ -21,8 +22,8 @@ loop-holds : tie.Need-loop-holds Inv-loop μ-loop
 loop-holds c =
     let a = c .before .args in
     let e : a .count ≡ a .count - 0 = omega arith in
-    let f : a .first ≡ a .first + 32 * 0 = omega arith in
-    (omega arith, λ k. any (sameId (part 32 (a .bytes .now) (a .at))) (idsFrom (e k) (a .bytes .now) (f k)))
+    let f : a .first ≡ a .first + idLen * 0 = omega arith in
+    (omega arith, λ k. any (sameId (part idLen (a .bytes .now) (a .at))) (idsFrom (e k) (a .bytes .now) (f k)))
 
 mul-same-id : tie.Need-mul-same-id Inv-loop μ-loop
 mul-same-id c = search needs
@@ -38,7 +39,7 @@ unfolding any
 returns c =
     let a = c .before .before .before .before .before .args in
     let l = c .before .before .before .loop in
-    let t = sameId (part 32 (a .bytes .now) (a .at)) in
+    let t = sameId (part idLen (a .bytes .now) (a .at)) in
     sym (l .inv .1 ∙ ap (any t) (ids-step (a .bytes .now) (a .first) (a .count) (l .i) (omega arith)) ∙ simp (sym (c .before .same-id .ensures) ∙ c .if1 .taken))
 
 add-i : tie.Need-add-i Inv-loop μ-loop
@@ -52,7 +53,7 @@ unfolding any
 loop-again c =
     let a = c .before .before .before .before .before .args in
     let l = c .before .before .before .loop in
-    let t = sameId (part 32 (a .bytes .now) (a .at)) in (
+    let t = sameId (part idLen (a .bytes .now) (a .at)) in (
       omega arith,
       l .inv .1 ∙ ap (any t) (ids-step (a .bytes .now) (a .first) (a .count) (l .i) (omega arith)) ∙ simp (sym (c .before .same-id .ensures) ∙ c .if1 .left),
     )
@@ -63,7 +64,7 @@ returns-2 c =
     let a = c .before .before .before .args in
     let l = c .before .loop in
     let e : a .count - l .i ≡ 0 = omega arith in
-    sym (l .inv .1 ∙ ap (λ (n : ℕ). any (sameId (part 32 (a .bytes .now) (a .at))) (idsFrom n (a .bytes .now) (a .first + 32 * l .i))) e)
+    sym (l .inv .1 ∙ ap (λ (n : ℕ). any (sameId (part idLen (a .bytes .now) (a .at))) (idsFrom n (a .bytes .now) (a .first + idLen * l .i))) e)
 
 pub is-among-spec : {M : Type 1} → statement M
 is-among-spec =

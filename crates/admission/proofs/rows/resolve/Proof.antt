@@ -1,45 +1,62 @@
 -- The invariant: all ids are known if those left after i are, and the places of the first i are in the array.
-use mathlib.Core.Path.{_≡_, refl, ap, sym, _∙_, ap₂}
-use mathlib.Core.List.{List, [], _∷_, _++_}
-use Prim.Native.Nat.{ℕ, _+_, _-_, _*_, _≤_, _<_}
-use Rattle.base.specs.Bytes.{part}
-use mathlib.Core.Bool.{Bool, false, not, _&&_}
-use native.Mathlib.Numerals.{add-one}
-use borrow.Author.Tests.{eq-eqb, ne-eqb}
-use lib.ListN.{length, take, set, length-set}
-use lib.Seq.{take-suc-set}
-use Rattle.base.specs.Tests.{all}
-use Rattle.round.specs.Rows.{idsFrom, placed, orZero}
-use Rattle.admission.specs.Lent.{isMarked, isKnownIn, placesIn}
-use Rattle.admission.proofs.Lent.{found-at, found-nothing, ids-step, places-more}
+use mathlib.Core.List.{List, _++_, _∷_, []}
+use Prim.Native.Nat.{ℕ, _<_, _-_, _+_, _*_, _≤_}
+use mathlib.Core.Bool.{Bool, false, _&&_, not, true}
+use mathlib.Core.Path.{_≡_, _∙_, ap, sym, refl, subst, ap₂}
+use lib.ListN.{length, take, length-set, set}
 use borrow.Author.Needs.{needs}
 use native.Mathlib.Omega.{arith}
+use mathlib.Core.Option.{none}
+use lib.Dec.{T}
+use borrow.Author.Tests.{eq-eqb, ne-eqb}
+use native.Mathlib.Numerals.{add-one}
+use lib.Seq.{take-suc-set}
+use Rattle.base.specs.Tests.{all}
+use Rattle.round.specs.Rows.{idsFrom, isKnownId, lacks, referenceIds, placed, orZero}
+use Rattle.message.specs.Layout.{idLen, referencesAt}
+use Rattle.base.specs.Bytes.{part}
+use Rattle.admission.proofs.Finding.{ids-step, found-inside, found-at, places-more}
+use Rattle.round.specs.Round.{Round}
+use Rattle.message.specs.declared.AcceptorMessage.{AcceptorMessage}
+use Rattle.round.specs.Limits.{maxHeld}
+use Rattle.roundbytes.specs.Layout.{roundIn}
+use Rattle.admission.specs.Finding.{placesOf, placeFound}
+use Rattle.round.specs.Holdings.{placeOf, isKnown}
 use Rattle.admission.proofs.rows.resolve.Statement.{statement}
 use Rattle.admission.proofs.rows.resolve.Tie as tie
 
 -- one that is not known
-lacking : (f : List ℕ → Bool) (b : List ℕ) (at n i : ℕ) → i < n → all f (idsFrom n b at) ≡ all f (idsFrom (n - i) b (at + 32 * i)) → f (part 32 b (at + 32 * i)) ≡ false
+lacking : (f : List ℕ → Bool) (b : List ℕ) (at n i : ℕ) → i < n → all f (idsFrom n b at) ≡ all f (idsFrom (n - i) b (at + idLen * i)) → f (part idLen b (at + idLen * i)) ≡ false
     → all f (idsFrom n b at) ≡ false
 unfolding all
-lacking f b at n i h e g = e ∙ ap (all f) (ids-step b at n i h) ∙ ap (λ (t : Bool). t && all f (idsFrom (n - (i + 1)) b (at + 32 * (i + 1)))) g
+lacking f b at n i h e g = e ∙ ap (all f) (ids-step b at n i h) ∙ ap (λ (t : Bool). t && all f (idsFrom (n - (i + 1)) b (at + idLen * (i + 1)))) g
+
+-- row 11, by whether all of them are known
+lacks-by : (r : Round) (b : List ℕ) (m : AcceptorMessage) (at : ℕ) (t : Bool) → at ≡ referencesAt (m .previous) → all (isKnownId r) (idsFrom (m .count) b at) ≡ t → lacks r (referenceIds b m) ≡ not t
+unfolding lacks
+lacks-by r b m at t e h = ap not (sym (ap (λ (k : ℕ). all (isKnownId r) (idsFrom (m .count) b k)) e) ∙ h)
 
 abbrev Inv-loop : tie.InvT-loop
-Inv-loop ids held known bytes at count places₀ i₀ places i =
+Inv-loop s bytes at count places₀ i₀ places i =
     (i ≤ count)
-    × ((length places ≡ 128)
-    × ((all (isKnownIn ids held known) (idsFrom count bytes at) ≡ all (isKnownIn ids held known) (idsFrom (count - i) bytes (at + 32 * i)))
-    × (take i places ≡ placesIn ids held (idsFrom i bytes at))))
+    × ((length places ≡ maxHeld)
+    × ((all (isKnownId (roundIn s)) (idsFrom count bytes at) ≡ all (isKnownId (roundIn s)) (idsFrom (count - i) bytes (at + idLen * i)))
+    × (take i places ≡ placesOf (roundIn s) (idsFrom i bytes at))))
 
 abbrev μ-loop : tie.MeasureT-loop
-μ-loop ids held known bytes at count places₀ i₀ places i = count - i
+μ-loop s bytes at count places₀ i₀ places i = count - i
+
+references-at-requires : tie.Need-references-at-requires Inv-loop μ-loop
+references-at-requires c κs = search needs
 
 loop-holds : tie.Need-loop-holds Inv-loop μ-loop
 unfolding idsFrom
 loop-holds c =
     let a = c .before .before .before .args in
-    let e : a .count ≡ a .count - 0 = omega arith in
-    let f : a .at ≡ a .at + 32 * 0 = omega arith in
-    (omega arith, (refl, (λ k. all (isKnownIn (a .ids .now) (a .held) (a .known .now)) (idsFrom (e k) (a .bytes .now) (f k)), refl)))
+    let at = c .references-at .result in
+    let e : a .m .count ≡ a .m .count - 0 = omega arith in
+    let f : at ≡ at + idLen * 0 = omega arith in
+    (omega arith, (refl, (λ k. all (isKnownId (roundIn (a .s .now))) (idsFrom (e k) (a .bytes .now) (f k)), refl)))
 
 mul-place-at : tie.Need-mul-place-at Inv-loop μ-loop
 mul-place-at c = search needs
@@ -60,35 +77,40 @@ returns : tie.Need-returns Inv-loop μ-loop
 returns c =
     let a = c .before .before .before .before .before .before .before .before .args in
     let l = c .before .before .before .before .loop in
-    let i = part 32 (a .bytes .now) (a .at + 32 * l .i) in (
-      sym (lacking (isKnownIn (a .ids .now) (a .held) (a .known .now)) (a .bytes .now) (a .at) (a .count) (l .i) (omega arith) (l .inv .1 .1 .0)
-          (ap (placed (isMarked (a .known .now))) (found-nothing (a .ids .now) (a .held) i _ (c .before .before .place-at .ensures) (c .enum-told .given .1)))),
-      λ e. absurd (let z : _≡_ {A = ℕ} 0 1 = cc in omega arith),
+    let r = roundIn (a .s .now) in
+    let at = c .before .before .before .before .before .references-at in
+    let i = part idLen (a .bytes .now) (at .result + idLen * l .i) in
+    let o : placeOf r i ≡ none = sym (c .before .before .place-at .ensures) ∙ ap placeFound (c .enum-told .given .1) in (
+      sym (lacks-by r (a .bytes .now) (a .m) (at .result) false (at .ensures .0) (lacking (isKnownId r) (a .bytes .now) (at .result) (a .m .count) (l .i) (omega arith) (l .inv .1 .1 .0) (ap (placed (isKnown r)) o))),
+      λ e. absurd (subst T e tt),
     )
 
-shared-slice-read-if1 : tie.Need-shared-slice-read-if1 Inv-loop μ-loop
-shared-slice-read-if1 c =
-    let a = c .before .before .before .before .before .before .before .before .before .before .args in
-    let l = c .before .before .before .before .before .before .loop in
-    let f = found-at (a .ids .now) (a .held) (part 32 (a .bytes .now) (a .at + 32 * l .i)) _ _ (c .before .before .before .before .place-at .ensures) (c .before .before .p .given .1) in
-    omega (arith, f .1)
+known-at-requires : tie.Need-known-at-requires Inv-loop μ-loop
+known-at-requires c κs =
+    let a = c .before .before .before .before .before .before .before .before .before .args in
+    let w = c .before .before .before .before .before .before .before .before .before .pre .0 in
+    let i = part idLen (a .bytes .now) (c .before .before .before .before .before .before .references-at .result + idLen * c .before .before .before .before .before .loop .i) in
+    (w .long, omega (arith, w .most, found-inside (roundIn (a .s .now)) i _ (c .before .before .before .place-at .ensures) _ (c .before .p .given .1)))
 
 returns-2 : tie.Need-returns-2 Inv-loop μ-loop
 returns-2 c =
     let a = c .before .before .before .before .before .before .before .before .before .before .before .args in
     let l = c .before .before .before .before .before .before .before .loop in
-    let f = found-at (a .ids .now) (a .held) (part 32 (a .bytes .now) (a .at + 32 * l .i)) _ _ (c .before .before .before .before .before .place-at .ensures) (c .before .before .before .p .given .1) in (
-      sym (lacking (isKnownIn (a .ids .now) (a .held) (a .known .now)) (a .bytes .now) (a .at) (a .count) (l .i) (omega arith) (l .inv .1 .1 .0)
-          (ap (placed (isMarked (a .known .now))) (f .0) ∙ ap not (eq-eqb _ 0 (c .if1 .taken)))),
-      λ e. absurd (let z : _≡_ {A = ℕ} 0 1 = cc in omega arith),
+    let r = roundIn (a .s .now) in
+    let at = c .before .before .before .before .before .before .before .before .references-at in
+    let i = part idLen (a .bytes .now) (at .result + idLen * l .i) in
+    let o = found-at r i _ (c .before .before .before .before .before .place-at .ensures) _ (c .before .before .before .p .given .1) in
+    let t = c .before .known-at .ensures in (
+      sym (lacks-by r (a .bytes .now) (a .m) (at .result) false (at .ensures .0) (lacking (isKnownId r) (a .bytes .now) (at .result) (a .m .count) (l .i) (omega arith) (l .inv .1 .1 .0)
+          (ap (placed (isKnown r)) o ∙ ap not (eq-eqb _ 0 (sym t ∙ c .if1 .taken))))),
+      λ e. absurd (subst T e tt),
     )
 
 cast-places : tie.Need-cast-places Inv-loop μ-loop
 cast-places c =
     let a = c .before .before .before .before .before .before .before .before .before .before .before .args in
-    let l = c .before .before .before .before .before .before .before .loop in
-    let f = found-at (a .ids .now) (a .held) (part 32 (a .bytes .now) (a .at + 32 * l .i)) _ _ (c .before .before .before .before .before .place-at .ensures) (c .before .before .before .p .given .1) in
-    omega (arith, f .1)
+    let i = part idLen (a .bytes .now) (c .before .before .before .before .before .before .before .before .references-at .result + idLen * c .before .before .before .before .before .before .before .loop .i) in
+    omega (arith, c .before .before .before .before .before .before .before .before .before .before .before .pre .0 .most, found-inside (roundIn (a .s .now)) i _ (c .before .before .before .before .before .place-at .ensures) _ (c .before .before .before .p .given .1))
 
 array-write-places : tie.Need-array-write-places Inv-loop μ-loop
 array-write-places c = search needs
@@ -104,19 +126,22 @@ unfolding all
 loop-again c =
     let a = c .before .before .before .before .before .before .before .before .before .before .before .args in
     let l = c .before .before .before .before .before .before .before .loop in
+    let r = roundIn (a .s .now) in
+    let at = c .before .before .before .before .before .before .before .before .references-at .result in
     let p = c .before .before .before .p .given .0 .0 in
-    let known = isKnownIn (a .ids .now) (a .held) (a .known .now) in
-    let f = found-at (a .ids .now) (a .held) (part 32 (a .bytes .now) (a .at + 32 * l .i)) _ _ (c .before .before .before .before .before .place-at .ensures) (c .before .before .before .p .given .1) in (
+    let i = part idLen (a .bytes .now) (at + idLen * l .i) in
+    let o = found-at r i _ (c .before .before .before .before .before .place-at .ensures) _ (c .before .before .before .p .given .1) in
+    let t = c .before .known-at .ensures in (
       omega arith,
       (
         length-set (l .places) (l .i) p ∙ l .inv .1 .0,
         (
-          l .inv .1 .1 .0 ∙ ap (all known) (ids-step (a .bytes .now) (a .at) (a .count) (l .i) (omega arith))
-              ∙ ap (λ (t : Bool). t && all known (idsFrom (a .count - (l .i + 1)) (a .bytes .now) (a .at + 32 * (l .i + 1))))
-              (ap (placed (isMarked (a .known .now))) (f .0) ∙ ap not (ne-eqb _ 0 (c .if1 .left))),
+          l .inv .1 .1 .0 ∙ ap (all (isKnownId r)) (ids-step (a .bytes .now) at (a .m .count) (l .i) (omega arith))
+              ∙ ap (λ (b : Bool). b && all (isKnownId r) (idsFrom (a .m .count - (l .i + 1)) (a .bytes .now) (at + idLen * (l .i + 1))))
+              (ap (placed (isKnown r)) o ∙ ap not (ne-eqb _ 0 (λ e. c .if1 .left (t ∙ e)))),
           ap (λ (n : ℕ). take n (set (l .places) (l .i) p)) (add-one (l .i)) ∙ take-suc-set (l .places) (l .i) p (omega arith)
-              ∙ ap₂ (λ (x : List ℕ) (y : ℕ). x ++ (y ∷ [])) (l .inv .1 .1 .1) (sym (ap orZero (f .0)))
-              ∙ sym (places-more (a .ids .now) (a .held) (a .bytes .now) (a .at) (l .i)),
+              ∙ ap₂ (λ (x : List ℕ) (y : ℕ). x ++ (y ∷ [])) (l .inv .1 .1 .1) (sym (ap orZero o))
+              ∙ sym (places-more r (a .bytes .now) at (l .i)),
         ),
       ),
     )
@@ -126,10 +151,12 @@ unfolding all idsFrom
 returns-3 c =
     let a = c .before .before .before .before .before .args in
     let l = c .before .loop in
-    let e : a .count - l .i ≡ 0 = omega arith in
-    let f : l .i ≡ a .count = omega arith in (
-      sym (l .inv .1 .1 .0 ∙ ap (λ (n : ℕ). all (isKnownIn (a .ids .now) (a .held) (a .known .now)) (idsFrom n (a .bytes .now) (a .at + 32 * l .i))) e),
-      λ _. sym (ap (λ (n : ℕ). take n (l .places)) f) ∙ l .inv .1 .1 .1 ∙ ap (λ (n : ℕ). placesIn (a .ids .now) (a .held) (idsFrom n (a .bytes .now) (a .at))) f,
+    let r = roundIn (a .s .now) in
+    let at = c .before .before .references-at in
+    let e : a .m .count - l .i ≡ 0 = omega arith in
+    let f : l .i ≡ a .m .count = omega arith in (
+      sym (lacks-by r (a .bytes .now) (a .m) (at .result) true (at .ensures .0) (l .inv .1 .1 .0 ∙ ap (λ (n : ℕ). all (isKnownId r) (idsFrom n (a .bytes .now) (at .result + idLen * l .i))) e)),
+      λ _. sym (ap (λ (n : ℕ). take n (l .places)) f) ∙ l .inv .1 .1 .1 ∙ ap₂ (λ (n k : ℕ). placesOf r (idsFrom n (a .bytes .now) k)) f (at .ensures .0),
     )
 
 pub resolve-spec : {M : Type 1} → statement M
@@ -138,6 +165,7 @@ resolve-spec =
     (tie.spec
     Inv-loop
     μ-loop
+    references-at-requires
     loop-holds
     mul-place-at
     add-place-at
@@ -145,7 +173,7 @@ resolve-spec =
     enum-known-p
     enum-told
     returns
-    shared-slice-read-if1
+    known-at-requires
     returns-2
     cast-places
     array-write-places

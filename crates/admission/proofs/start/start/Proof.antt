@@ -3,6 +3,7 @@ use Prim.Native.Nat.{ℕ}
 use mathlib.Core.Bool.{Bool, true, false, not, _||_}
 use borrow.Author.Tests.{lt-leb, le-leb, ltb-true, ltb-false, not-true, not-false}
 use lib.Dec.{ltb, leb}
+use Rattle.round.specs.Limits.{listening}
 use borrow.Author.Needs.{needs}
 use Rattle.admission.proofs.start.start.Statement.{statement}
 use Rattle.admission.proofs.start.start.Tie as tie
@@ -15,8 +16,8 @@ not-ltb a b = go (ltb a b) refl
     go false e = ap not e ∙ sym (le-leb b a (ltb-false a b e))
 
 -- whether the own acceptor number is in the graph
-seated : (own acceptors : ℕ) (b t : Bool) → b ≡ (not (ltb own 256) || ltb own acceptors) → b ≡ t → (leb 256 own || ltb own acceptors) ≡ t
-seated own acceptors b t e f = ap (λ (u : Bool). u || ltb own acceptors) (sym (not-ltb own 256)) ∙ sym e ∙ f
+seated : (own acceptors : ℕ) (b t : Bool) → b ≡ (not (ltb own listening) || ltb own acceptors) → b ≡ t → (leb listening own || ltb own acceptors) ≡ t
+seated own acceptors b t e f = ap (λ (u : Bool). u || ltb own acceptors) (sym (not-ltb own listening)) ∙ sym e ∙ f
 
 own-fits-requires : tie.Need-own-fits-requires
 own-fits-requires c κs = search needs

@@ -1,93 +1,69 @@
-use mathlib.Core.Path.{refl, _≡_}
-use mathlib.Core.List.{[]}
-use borrow.Author.Tests.{lt-ltb, le-ltb}
+use borrow.Author.Needs.{needs}
+use mathlib.Core.Path.{subst, refl}
+use Prim.Native.Nat.{ℕ, _≤_}
+use native.Mathlib.Omega.{arith}
+use Rattle.answering.proofs.Replying.{process-listening, process-voting}
 use Rattle.digest.specs.Sha256.{sha256}
-use Rattle.round.specs.declared.Outcome.the-variants.{Accepted}
-use Rattle.round.specs.Held.{votes}
-use Rattle.round.specs.Reply.{replyBytes}
-use Rattle.round.specs.Delivery.{answered, processed}
+use Rattle.round.specs.Limits.{listening}
 use Rattle.roundbytes.specs.Layout.{roundIn}
 use Rattle.answering.specs.Giving.{left}
-use Rattle.answering.proofs.Replying.{gives-first, gives-second, front-none}
-use borrow.Author.Needs.{needs}
-use native.Mathlib.Omega.{arith}
 use Rattle.answering.proofs.answer.process.Statement.{statement}
 use Rattle.answering.proofs.answer.process.Tie as tie
 
-word16-requires : tie.Need-word16-requires
-word16-requires c κs = search needs
-
-slice-aggregate-notes-of : tie.Need-slice-aggregate-notes-of
-slice-aggregate-notes-of c = search needs
-
-slice-aggregate-notes-of-2 : tie.Need-slice-aggregate-notes-of-2
-slice-aggregate-notes-of-2 c = search needs
-
-notes-of-requires : tie.Need-notes-of-requires
-notes-of-requires c κs =
-    let p = c .before .before .before .before .before .before .before .before .before .pre in
-    (p .0, (p .1 .0, (p .1 .1 .fit, search needs)))
-
-slice-aggregate-answer : tie.Need-slice-aggregate-answer
-slice-aggregate-answer c = search needs
-
-slice-aggregate-answer-2 : tie.Need-slice-aggregate-answer-2
-slice-aggregate-answer-2 c = search needs
-
-answer-requires : tie.Need-answer-requires
-unfolding roundIn
-answer-requires c κs =
-    let p = c .before .before .before .before .before .before .before .before .before .before .before .before .before .before .before .before .pre in
-    let e : c .before .before .before .before .before .before .before .before .before .before .before .word16 .result ≡ roundIn (c .before .before .before .before .before .before .before .before .before .before .before .before .before .before .before .before .args .s .now) .own = c .before .before .before .before .before .before .before .before .before .before .before .word16 .ensures in
-    let t = c .before .before .before .before .before .before .before .before .before .before .if1 .taken in
-    (p .0, (p .1 .0, (c .before .before .before .before .before .before .notes-of .ensures, (p .1 .1, omega arith))))
+own-of-requires : tie.Need-own-of-requires
+own-of-requires c κs = search needs
 
 same-length : tie.Need-same-length
 same-length c = search needs
 
+returns : tie.Need-returns
+returns c =
+    let a = c .before .before .before .before .before .before .before .before .args in
+    let o = c .before .own-of .ensures in
+    (process-listening sha256 (a .s .now) (a .p) (a .reply .now) (subst (λ (n : ℕ). listening ≤ n) o (c .if1 .taken)), (refl, refl))
+
+note-last-requires : tie.Need-note-last-requires
+note-last-requires c κs =
+    let p = c .before .before .before .before .before .before .before .before .before .before .before .pre in
+    (p .0 .passes, p .1)
+
+answer-requires : tie.Need-answer-requires
+answer-requires c κs =
+    let p = c .before .before .before .before .before .before .before .before .before .before .before .before .before .before .before .before .before .before .before .before .pre in
+    let o = c .before .before .before .before .before .before .before .before .before .before .before .before .before .own-of .ensures in
+    (record { passes = p .0 .passes; read = p .1 .0; worked = c .before .before .before .before .before .before .before .before .note-last .ensures }, (p .0, omega (arith, c .before .before .before .before .before .before .before .before .before .before .before .before .if1 .left)))
+
 same-length-2 : tie.Need-same-length-2
 same-length-2 c = search needs
-
-returns : tie.Need-returns
-unfolding processed roundIn
-returns c =
-    let a = c .before .before .before .before .before .before .before .before .before .before .before .before .before .before .before .before .before .before .before .before .before .args in
-    let r = roundIn (a .s .now) in
-    let e : c .before .before .before .before .before .before .before .before .before .before .before .before .before .before .before .before .word16 .result ≡ r .own = c .before .before .before .before .before .before .before .before .before .before .before .before .before .before .before .before .word16 .ensures in
-    let t = c .before .before .before .before .before .before .before .before .before .before .before .before .before .before .before .if1 .taken in (
-      gives-first (votes r) (answered sha256 r (a .p) (replyBytes r (a .p))) (record { outcome = Accepted; round = r; reply = [] }) (left (c .before .before .before .before .answer .result) (c .before .before .before .before .answer .last .0)) (a .reply .now) (c .before .before .before .before .answer .last .1 .1 .1 .1 .1 .0)
-          (lt-ltb (r .own) 256 (omega arith)) (c .before .before .before .before .answer .ensures .0),
-      c .before .before .before .before .answer .ensures .1,
-    )
 
 same-length-3 : tie.Need-same-length-3
 same-length-3 c = search needs
 
+same-length-4 : tie.Need-same-length-4
+same-length-4 c = search needs
+
+same-length-5 : tie.Need-same-length-5
+same-length-5 c = search needs
+
 returns-2 : tie.Need-returns-2
-unfolding processed roundIn
 returns-2 c =
-    let a = c .before .before .before .before .before .before .args in
+    let a = c .before .before .before .before .before .before .before .before .before .before .before .before .before .before .before .before .before .before .before .before .before .before .before .before .before .args in
     let r = roundIn (a .s .now) in
-    let e : c .before .word16 .result ≡ r .own = c .before .word16 .ensures in
-    let t = c .if1 .left in (
-      gives-second (votes r) (answered sha256 r (a .p) (replyBytes r (a .p))) (record { outcome = Accepted; round = r; reply = [] }) (left Accepted (a .s .now)) (a .reply .now) (a .reply .now)
-          (le-ltb (r .own) 256 (omega arith)) (refl, front-none (a .reply .now)),
-      (refl, refl),
-    )
+    let o = c .before .before .before .before .before .before .before .before .before .before .before .before .before .before .before .before .before .before .own-of .ensures in
+    let x = c .before .before .before .before .answer in
+    (process-voting sha256 r (a .p) (left (x .result) (x .last .0)) (a .reply .now) (x .last .1 .1 .1 .1 .1 .0) (omega (arith, c .before .before .before .before .before .before .before .before .before .before .before .before .before .before .before .before .before .if1 .left)) (x .ensures .0), x .ensures .1)
 
 pub process-spec : {M : Type 1} → statement M
 process-spec =
     tie.close
     (tie.spec
-    word16-requires
-    slice-aggregate-notes-of
-    slice-aggregate-notes-of-2
-    notes-of-requires
-    slice-aggregate-answer
-    slice-aggregate-answer-2
-    answer-requires
+    own-of-requires
     same-length
-    same-length-2
     returns
+    note-last-requires
+    answer-requires
+    same-length-2
     same-length-3
+    same-length-4
+    same-length-5
     returns-2)

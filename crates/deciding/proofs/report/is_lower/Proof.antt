@@ -1,31 +1,26 @@
-use mathlib.Core.Path.{ap}
+use mathlib.Core.Path.{ap, _∙_}
 use mathlib.Core.Bool.{not, _&&_, _||_}
-use Prim.Native.Nat.{ℕ, _-_}
 use lib.Dec.{eqb, ltb}
-use lib.ListN.{getD}
-use Rattle.deciding.specs.Deciding.{isKnown2a}
+use Rattle.base.specs.Ballots.{valueOf}
 use borrow.Author.Needs.{needs}
 use Rattle.deciding.proofs.report.is_lower.Statement.{statement}
 use Rattle.deciding.proofs.report.is_lower.Tie as tie
 
-mul-x : tie.Need-mul-x
-mul-x c = search needs
+top-at-requires : tie.Need-top-at-requires
+top-at-requires c κs = search needs
 
-shared-slice-read-x : tie.Need-shared-slice-read-x
-shared-slice-read-x c = search needs
-
-shared-slice-read-result : tie.Need-shared-slice-read-result
-shared-slice-read-result c = search needs
-
-shared-slice-read-result-2 : tie.Need-shared-slice-read-result-2
-shared-slice-read-result-2 c = search needs
+is-known-2a-requires : tie.Need-is-known-2a-requires
+is-known-2a-requires c κs = search needs
 
 value-requires : tie.Need-value-requires
 value-requires c κs = search needs
 
 returns : tie.Need-returns
-returns c = let a = c .before .before .before .before .before .before .before .before .before .args in
-    ap (λ (w : ℕ). isKnown2a (a .known .now) (a .forms .now) (a .j) && (not (a .other) || not (eqb w (a .v))) && (not (a .p .found) || ltb (getD (a .tops .now) (a .j) 0) (a .p .ballot))) (c .before .before .value .ensures)
+returns c =
+    let a = c .before .before .before .before .before .before .before .before .args in
+    let top = c .before .before .before .before .top-at .ensures in
+    let worth = c .before .before .value .ensures ∙ ap valueOf top in
+    λ e. c .before .before .before .is-known-2a .ensures e && (not (a .other) || not (eqb (worth e) (a .v))) && (not (a .p .found) || ltb (top e) (a .p .ballot))
 
 pub is-lower-spec : {M : Type 1} → statement M
-is-lower-spec = tie.close (tie.spec mul-x shared-slice-read-x shared-slice-read-result shared-slice-read-result-2 value-requires returns)
+is-lower-spec = tie.close (tie.spec top-at-requires is-known-2a-requires value-requires returns)

@@ -1,74 +1,37 @@
-use Rattle.derive.proofs.pass.work_out.Statement.{statement}
-use Rattle.derive.proofs.pass.work_out.Tie as tie
-use mathlib.Core.Path.{_≡_, sym, subst}
+use mathlib.Core.Path.{_≡_, subst, _∙_}
+use Prim.Native.Nat.{ℕ}
+use native.Mathlib.Omega.{arith}
 use lib.ListN.{length}
-use Rattle.base.specs.Bytes.{part}
-use Rattle.base.proofs.Bytes.{part-length}
-use Rattle.graph.specs.Held.{heldGraph}
 use Rattle.protocol.specs.Table.{tabulate}
-use Rattle.notes.specs.Notes.{keys}
-use Rattle.notes.specs.Lent.{Lent, notesIn, MarksIn}
-use Rattle.notes.proofs.Growing.{known-none}
-use Rattle.notes.proofs.Walking.{marks-none}
-use Rattle.notes.proofs.Lending.{names-lent, names-back}
+use Rattle.round.specs.Holdings.{graphOf}
+use Rattle.roundbytes.specs.Layout.{roundIn}
+use Rattle.notes.specs.Layout.{wordNotes, byteNotes}
+use Rattle.scan.specs.Arrays.{Named, IdsIndexed}
+use Rattle.meaning.proofs.Growing.{known-none}
+use Rattle.meaning.proofs.Walking.{marks-none}
 use Rattle.derive.proofs.Extending.{all-complete}
 use borrow.Author.Needs.{needs}
-use native.Mathlib.Omega.{arith}
+use Rattle.derive.proofs.pass.work_out.Statement.{statement}
+use Rattle.derive.proofs.pass.work_out.Tie as tie
 
-sub-name-places : tie.Need-sub-name-places
-sub-name-places c = search needs
-
-part-name-places-start : tie.Need-part-name-places-start
-part-name-places-start c = search needs
-
-part-name-places-end : tie.Need-part-name-places-end
-part-name-places-end c = search needs
-
-sub-name-places-2 : tie.Need-sub-name-places-2
-sub-name-places-2 c = search needs
-
-part-name-places-start-2 : tie.Need-part-name-places-start-2
-part-name-places-start-2 c = search needs
-
-part-name-places-end-2 : tie.Need-part-name-places-end-2
-part-name-places-end-2 c = search needs
+held-of-requires : tie.Need-held-of-requires
+held-of-requires c κs = search needs
 
 name-places-requires : tie.Need-name-places-requires
-name-places-requires c κs = let pre = c .before .before .before .before .before .before .before .before .before .before .before .before .before .pre in let a = c .before .before .before .before .before .before .before .before .before .before .before .before .before .args in (pre .1 .1 .1 .0 .held, (pre .1 .1 .1 .1 .0 .idsFit, (part-length 256 (a .octets .now) 0 (omega (arith, pre .1 .1 .1 .1 .1 .1)), part-length 64 (a .words .now) 640 (omega (arith, pre .1 .1 .1 .1 .1 .0)))))
+name-places-requires c κs = search needs
 
-extended-requires : tie.Need-extended-requires
-extended-requires c κs =
-    let a = c .before .before .before .before .before .before .before .before .before .before .before .before .before .before .before .before .before .before .before .before .args in
-    let pre = c .before .before .before .before .before .before .before .before .before .before .before .before .before .before .before .before .before .before .before .before .pre in
+extend-requires : tie.Need-extend-requires
+extend-requires c κs =
+    let a = c .before .before .before .before .before .before .before .before .before .before .before .before .before .before .args in
+    let given = c .before .before .before .before .before .before .before .before .before .before .before .before .before .before .pre in
     let named = c .before .before .before .before .before .before .name-places in
-    let w = a .words .now in
-    let b = a .octets .now in
-    let ns = named .last .1 .1 .0 in
-    let ks = named .last .1 .1 .1 .0 in
-    let kn : length ns ≡ length (part 256 b 0) = named .kept .1 .1 .0 in
-    let kk : length ks ≡ length (part 64 w 640) = named .kept .1 .1 .1 .0 in
-    let lent : Lent w b = pre .1 .1 .1 .1 .1 in
-    let e = names-back w b ns ks lent kn kk in
-    let lens = pre .1 .1 .1 .1 .0 in
-    let l = names-lent w b ns ks lent kn kk in
-    let none = marks-none (a .signers .now) ns (a .previous .now) _ _ _ _ _ _ _ _ (part-length keys w 704 (omega (arith, lent .0))) (part-length keys w 772 (omega (arith, lent .0))) in (
-      omega arith,
-      (
-        record {
-          acceptorsFit = pre .0;
-          learnersFit = pre .1 .0;
-          sized = pre .1 .1 .0;
-          fit = pre .1 .1 .1 .0;
-          kindsFit = lens .kindsFit;
-          signersFit = lens .signersFit;
-          ballotsFit = lens .ballotsFit;
-          previousFit = lens .previousFit;
-          countsFit = lens .countsFit;
-          referencesFit = lens .referencesFit;
-        },
-        (l, subst (MarksIn 0 (a .signers .now) (a .previous .now)) (sym e) none),
-      ),
-    )
+    let wide : length (named .last .1 .0) ≡ length (a .words .now) = named .kept .1 .0 in
+    let long : length (named .last .1 .1 .0) ≡ length (a .octets .now) = named .kept .1 .1 .0 in
+    record {
+      given = record { graphed = given .graphed; learners = given .learners; fit = given .fit; lent = record { wordRoom = wide ∙ given .lent .wordRoom; octetRoom = long ∙ given .lent .octetRoom } };
+      within = omega arith;
+      marked = marks-none (roundIn (a .s .now)) (wordNotes (named .last .1 .0)) (byteNotes (named .last .1 .1 .0));
+    }
 
 same-length : tie.Need-same-length
 same-length c = search needs
@@ -79,34 +42,30 @@ same-length-2 c = search needs
 returns : tie.Need-returns
 unfolding tabulate
 returns c =
-    let a = c .before .before .before .before .before .before .before .before .before .before .before .before .before .before .before .before .before .before .before .before .before .before .before .before .before .args in
-    let pre = c .before .before .before .before .before .before .before .before .before .before .before .before .before .before .before .before .before .before .before .before .before .before .before .before .before .pre in
+    let a = c .before .before .before .before .before .before .before .before .before .before .before .before .before .before .before .before .before .before .before .args in
+    let given = c .before .before .before .before .before .before .before .before .before .before .before .before .before .before .before .before .before .before .before .pre in
+    let r = roundIn (a .s .now) in
     let named = c .before .before .before .before .before .before .before .before .before .before .before .name-places in
-    let w = a .words .now in
-    let b = a .octets .now in
-    let ns = named .last .1 .1 .0 in
-    let ks = named .last .1 .1 .1 .0 in
-    let kn : length ns ≡ length (part 256 b 0) = named .kept .1 .1 .0 in
-    let kk : length ks ≡ length (part 64 w 640) = named .kept .1 .1 .1 .0 in
-    let lent : Lent w b = pre .1 .1 .1 .1 .1 in
-    let e = names-back w b ns ks lent kn kk in
-    let more = c .before .before .before .before .extended in
-    let x = notesIn w b in
-    all-complete (heldGraph (a .acceptors) (a .l) (a .lists .now) (a .masks .now)) (a .ids .now) (a .kinds .now) (a .signers .now) (a .ballots .now) (a .previous .now) (a .counts .now) (a .references .now) (a .n) 0 x _ (notesIn (more .last .0) (more .last .1 .0)) ns (part 32 ks 0) (part 32 ks 32) e (more .ensures) (named .ensures .0) (named .ensures .1)
-    (known-none (heldGraph (a .acceptors) (a .l) (a .lists .now) (a .masks .now)) (a .kinds .now) (a .signers .now) (x .low) (x .high) (x .forklow) (x .forkhigh) (x .tops) (x .learners) (x .fresh) (x .forms))
+    let more = c .before .before .before .before .extend in
+    let e = c .before .before .before .before .before .before .before .before .before .before .before .before .held-of .ensures .0 in
+    let x = wordNotes (named .last .1 .0) in
+    let y = byteNotes (named .last .1 .1 .0) in
+    let wide : length (named .last .1 .0) ≡ length (a .words .now) = named .kept .1 .0 in
+    let long : length (named .last .1 .1 .0) ≡ length (a .octets .now) = named .kept .1 .1 .0 in
+    let wider : length (more .last .1 .1 .0) ≡ length (named .last .1 .0) = more .kept .1 .1 .0 in
+    let longer : length (more .last .1 .1 .1 .0) ≡ length (named .last .1 .1 .0) = more .kept .1 .1 .1 .0 in
+    record {
+      lent = record { wordRoom = wider ∙ wide ∙ given .lent .wordRoom; octetRoom = longer ∙ long ∙ given .lent .octetRoom };
+      complete = all-complete r 0 x (wordNotes (more .last .1 .1 .0)) y (byteNotes (more .last .1 .1 .1 .0)) (subst (λ (n : ℕ). Named r n y) e (named .ensures .named)) (subst (λ (n : ℕ). IdsIndexed r n x) e (named .ensures .indexed)) (known-none (graphOf r) r x y) (more .ensures);
+    }
 
 pub work-out-spec : {M : Type 1} → statement M
 work-out-spec =
     tie.close
     (tie.spec
-    sub-name-places
-    part-name-places-start
-    part-name-places-end
-    sub-name-places-2
-    part-name-places-start-2
-    part-name-places-end-2
+    held-of-requires
     name-places-requires
-    extended-requires
+    extend-requires
     same-length
     same-length-2
     returns)

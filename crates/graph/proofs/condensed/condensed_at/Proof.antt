@@ -7,10 +7,11 @@ use lib.Seq.{slice}
 use borrow.Author.Tests.{not-true, not-false}
 use Rattle.base.specs.Tests.{any, all}
 use Rattle.base.proofs.Tests.{all-end, all-here, all-past}
-use Rattle.graph.specs.Held.{listOf}
+use Rattle.graph.specs.Limits.{maxMasks}
+use Rattle.graph.specs.Memory.{listOf}
 use Rattle.base.specs.Sets.{has, contains}
 use Rattle.graph.specs.LearnerGraph.{isSafe, condensedAt}
-use Rattle.graph.proofs.Held.{list-is}
+use Rattle.graph.proofs.Memory.{list-is}
 use borrow.Author.Needs.{needs}
 use native.Mathlib.Omega.{arith}
 use Rattle.graph.proofs.condensed.condensed_at.Statement.{statement}
@@ -66,7 +67,7 @@ joins-requires c κs = search needs
 returns : tie.Need-returns Inv-loop μ-loop
 unfolding condensedAt isSafe
 returns c = let a = c .before .before .before .before .before .before .before .before .before .before .before .args in let l′ = c .before .before .before .before .loop in
-    λ l. sym ((λ i. all (test (a .counts .now) (a .masks .now) (a .acceptors) (sym (c .before .before .before .before .before .before .before .pair-list2 .ensures .0) i) (sym (c .before .before .before .before .before .before .pair-list3 .ensures .0) i)) (listOf (a .counts .now) (a .masks .now) (sym (c .before .before .before .before .before .before .before .before .pair-list .ensures .0) i))) ∙ l′ .inv .1 ∙ all-here (test (a .counts .now) (a .masks .now) (a .acceptors) (c .before .before .before .before .before .before .before .pair-list2 .result) (c .before .before .before .before .before .before .pair-list3 .result)) (a .masks .now) (8 * c .before .before .before .before .before .before .before .before .pair-list .result + c .before .before .before .before .before .count-of .result) (l′ .i) (c .before .before .before .loop-test .taken) (l′ .inv .0) (sym (c .before .joins .ensures) ∙ not-true (c .before .joins .result) (c .if1 .taken)))
+    λ l. sym ((λ i. all (test (a .counts .now) (a .masks .now) (a .acceptors) (sym (c .before .before .before .before .before .before .before .pair-list2 .ensures .0) i) (sym (c .before .before .before .before .before .before .pair-list3 .ensures .0) i)) (listOf (a .counts .now) (a .masks .now) (sym (c .before .before .before .before .before .before .before .before .pair-list .ensures .0) i))) ∙ l′ .inv .1 ∙ all-here (test (a .counts .now) (a .masks .now) (a .acceptors) (c .before .before .before .before .before .before .before .pair-list2 .result) (c .before .before .before .before .before .before .pair-list3 .result)) (a .masks .now) (maxMasks * c .before .before .before .before .before .before .before .before .pair-list .result + c .before .before .before .before .before .count-of .result) (l′ .i) (c .before .before .before .loop-test .taken) (l′ .inv .0) (sym (c .before .joins .ensures) ∙ not-true (c .before .joins .result) (c .if1 .taken)))
 
 add-i : tie.Need-add-i Inv-loop μ-loop
 add-i c = search needs
@@ -76,12 +77,12 @@ loop-less c = search needs
 
 loop-again : tie.Need-loop-again Inv-loop μ-loop
 loop-again c = let a = c .before .before .before .before .before .before .before .before .before .before .before .args in let l′ = c .before .before .before .before .loop in
-    (l′ .inv .0, l′ .inv .1 ∙ all-past (test (a .counts .now) (a .masks .now) (a .acceptors) (c .before .before .before .before .before .before .before .pair-list2 .result) (c .before .before .before .before .before .before .pair-list3 .result)) (a .masks .now) (8 * c .before .before .before .before .before .before .before .before .pair-list .result + c .before .before .before .before .before .count-of .result) (l′ .i) (c .before .before .before .loop-test .taken) (l′ .inv .0) (sym (c .before .joins .ensures) ∙ not-false (c .before .joins .result) (c .if1 .left)))
+    (l′ .inv .0, l′ .inv .1 ∙ all-past (test (a .counts .now) (a .masks .now) (a .acceptors) (c .before .before .before .before .before .before .before .pair-list2 .result) (c .before .before .before .before .before .before .pair-list3 .result)) (a .masks .now) (maxMasks * c .before .before .before .before .before .before .before .before .pair-list .result + c .before .before .before .before .before .count-of .result) (l′ .i) (c .before .before .before .loop-test .taken) (l′ .inv .0) (sym (c .before .joins .ensures) ∙ not-false (c .before .joins .result) (c .if1 .left)))
 
 returns-2 : tie.Need-returns-2 Inv-loop μ-loop
 unfolding condensedAt isSafe
 returns-2 c = let a = c .before .before .before .before .before .before .before .before .args in let l′ = c .before .loop in
-    λ l. sym ((λ i. all (test (a .counts .now) (a .masks .now) (a .acceptors) (sym (c .before .before .before .before .pair-list2 .ensures .0) i) (sym (c .before .before .before .pair-list3 .ensures .0) i)) (listOf (a .counts .now) (a .masks .now) (sym (c .before .before .before .before .before .pair-list .ensures .0) i))) ∙ l′ .inv .1 ∙ all-end (test (a .counts .now) (a .masks .now) (a .acceptors) (c .before .before .before .before .pair-list2 .result) (c .before .before .before .pair-list3 .result)) (a .masks .now) (8 * c .before .before .before .before .before .pair-list .result + c .before .before .count-of .result) (l′ .i) (c .loop-test .left))
+    λ l. sym ((λ i. all (test (a .counts .now) (a .masks .now) (a .acceptors) (sym (c .before .before .before .before .pair-list2 .ensures .0) i) (sym (c .before .before .before .pair-list3 .ensures .0) i)) (listOf (a .counts .now) (a .masks .now) (sym (c .before .before .before .before .before .pair-list .ensures .0) i))) ∙ l′ .inv .1 ∙ all-end (test (a .counts .now) (a .masks .now) (a .acceptors) (c .before .before .before .before .pair-list2 .result) (c .before .before .before .pair-list3 .result)) (a .masks .now) (maxMasks * c .before .before .before .before .before .pair-list .result + c .before .before .count-of .result) (l′ .i) (c .loop-test .left))
 
 pub condensed-at-spec : {M : Type 1} → statement M
 condensed-at-spec =

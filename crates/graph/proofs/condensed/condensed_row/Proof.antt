@@ -3,7 +3,7 @@ use Prim.Native.Nat.{ℕ, _≤_, _-_}
 use borrow.Author.Tests.{not-true, not-false}
 use Rattle.base.specs.Tests.{all, below}
 use Rattle.base.proofs.Tests.{below-here, below-past}
-use Rattle.graph.specs.Held.{heldGraph}
+use Rattle.graph.specs.Memory.{heldGraph}
 use Rattle.graph.specs.LearnerGraph.{condensedAt}
 use borrow.Author.Needs.{needs}
 use native.Mathlib.Omega.{arith}

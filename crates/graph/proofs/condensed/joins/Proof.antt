@@ -7,9 +7,10 @@ use lib.Seq.{slice}
 use borrow.Author.Tests.{not-true, not-false}
 use Rattle.base.specs.Tests.{any, all}
 use Rattle.base.proofs.Tests.{all-end, all-here, all-past}
-use Rattle.graph.specs.Held.{listOf}
+use Rattle.graph.specs.Limits.{maxMasks}
+use Rattle.graph.specs.Memory.{listOf}
 use Rattle.base.specs.Sets.{has, contains}
-use Rattle.graph.proofs.Held.{list-is, some-in-union}
+use Rattle.graph.proofs.Memory.{list-is, some-in-union}
 use borrow.Author.Needs.{needs}
 use native.Mathlib.Omega.{arith}
 use Rattle.graph.proofs.condensed.joins.Statement.{statement}
@@ -55,7 +56,7 @@ some-contained-requires c κs = search needs
 
 returns : tie.Need-returns Inv-loop μ-loop
 returns c = let a = c .before .before .before .before .before .before .before .before .args in let l′ = c .before .before .before .before .loop in
-    sym (l′ .inv .1 ∙ all-here (test (a .counts .now) (a .masks .now) (a .acceptors) (a .m) (a .s)) (a .masks .now) (8 * a .k + c .before .before .before .before .before .count-of .result) (l′ .i) (c .before .before .before .loop-test .taken) (l′ .inv .0) (sym (some-in-union (a .acceptors) (a .s) (getD (a .masks .now) (l′ .i) 0) (listOf (a .counts .now) (a .masks .now) (a .m))) ∙ sym (c .before .some-contained .ensures) ∙ not-true (c .before .some-contained .result) (c .if1 .taken)))
+    sym (l′ .inv .1 ∙ all-here (test (a .counts .now) (a .masks .now) (a .acceptors) (a .m) (a .s)) (a .masks .now) (maxMasks * a .k + c .before .before .before .before .before .count-of .result) (l′ .i) (c .before .before .before .loop-test .taken) (l′ .inv .0) (sym (some-in-union (a .acceptors) (a .s) (getD (a .masks .now) (l′ .i) 0) (listOf (a .counts .now) (a .masks .now) (a .m))) ∙ sym (c .before .some-contained .ensures) ∙ not-true (c .before .some-contained .result) (c .if1 .taken)))
 
 add-i : tie.Need-add-i Inv-loop μ-loop
 add-i c = search needs
@@ -65,11 +66,11 @@ loop-less c = search needs
 
 loop-again : tie.Need-loop-again Inv-loop μ-loop
 loop-again c = let a = c .before .before .before .before .before .before .before .before .args in let l′ = c .before .before .before .before .loop in
-    (l′ .inv .0, l′ .inv .1 ∙ all-past (test (a .counts .now) (a .masks .now) (a .acceptors) (a .m) (a .s)) (a .masks .now) (8 * a .k + c .before .before .before .before .before .count-of .result) (l′ .i) (c .before .before .before .loop-test .taken) (l′ .inv .0) (sym (some-in-union (a .acceptors) (a .s) (getD (a .masks .now) (l′ .i) 0) (listOf (a .counts .now) (a .masks .now) (a .m))) ∙ sym (c .before .some-contained .ensures) ∙ not-false (c .before .some-contained .result) (c .if1 .left)))
+    (l′ .inv .0, l′ .inv .1 ∙ all-past (test (a .counts .now) (a .masks .now) (a .acceptors) (a .m) (a .s)) (a .masks .now) (maxMasks * a .k + c .before .before .before .before .before .count-of .result) (l′ .i) (c .before .before .before .loop-test .taken) (l′ .inv .0) (sym (some-in-union (a .acceptors) (a .s) (getD (a .masks .now) (l′ .i) 0) (listOf (a .counts .now) (a .masks .now) (a .m))) ∙ sym (c .before .some-contained .ensures) ∙ not-false (c .before .some-contained .result) (c .if1 .left)))
 
 returns-2 : tie.Need-returns-2 Inv-loop μ-loop
 returns-2 c = let a = c .before .before .before .before .before .args in let l′ = c .before .loop in
-    sym (l′ .inv .1 ∙ all-end (test (a .counts .now) (a .masks .now) (a .acceptors) (a .m) (a .s)) (a .masks .now) (8 * a .k + c .before .before .count-of .result) (l′ .i) (c .loop-test .left))
+    sym (l′ .inv .1 ∙ all-end (test (a .counts .now) (a .masks .now) (a .acceptors) (a .m) (a .s)) (a .masks .now) (maxMasks * a .k + c .before .before .count-of .result) (l′ .i) (c .loop-test .left))
 
 pub joins-spec : {M : Type 1} → statement M
 joins-spec =

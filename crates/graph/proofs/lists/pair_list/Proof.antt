@@ -1,6 +1,6 @@
 use mathlib.Core.Path.{_≡_, ap, sym, _∙_}
 use Prim.Native.Nat.{_-_, max}
-use Rattle.graph.specs.Held.{triangle, pairList}
+use Rattle.graph.specs.Memory.{triangle, pairList}
 use borrow.Author.Needs.{needs}
 use native.Mathlib.Omega.{arith}
 use Rattle.graph.proofs.lists.pair_list.Statement.{statement}

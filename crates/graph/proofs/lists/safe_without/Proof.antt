@@ -2,7 +2,7 @@ use mathlib.Core.Path.{ap, _∙_}
 use Prim.Native.Nat.{ℕ, _-_}
 use Rattle.base.specs.Tests.{any}
 use Rattle.base.specs.Sets.{has, apart}
-use Rattle.graph.specs.Held.{listOf}
+use Rattle.graph.specs.Memory.{listOf}
 use Rattle.graph.specs.LearnerGraph.{safeWithout}
 use borrow.Author.Needs.{needs}
 use Rattle.graph.proofs.lists.safe_without.Statement.{statement}

@@ -1,5 +1,5 @@
 use Prim.Native.Nat.{_-_}
-use Rattle.graph.proofs.Held.{triangle-half, half-small}
+use Rattle.graph.proofs.Memory.{triangle-half, half-small}
 use borrow.Author.Needs.{needs}
 use native.Mathlib.Omega.{arith}
 use Rattle.graph.proofs.lists.triangle.Statement.{statement}

@@ -7,9 +7,10 @@ use lib.Seq.{slice}
 use borrow.Author.Tests.{not-true, not-false}
 use Rattle.base.specs.Tests.{all}
 use Rattle.base.proofs.Tests.{all-end, all-here, all-past}
-use Rattle.graph.specs.Held.{listOf, heldGraph}
+use Rattle.graph.specs.Limits.{maxMasks}
+use Rattle.graph.specs.Memory.{listOf, heldGraph}
 use Rattle.graph.specs.LearnerGraph.{common}
-use Rattle.graph.proofs.Held.{list-is, some-apart-common}
+use Rattle.graph.proofs.Memory.{list-is, some-apart-common}
 use borrow.Author.Needs.{needs}
 use native.Mathlib.Omega.{arith}
 use Rattle.graph.proofs.valid.meets.Statement.{statement}
@@ -55,7 +56,7 @@ some-apart-requires c κs = search needs
 
 returns : tie.Need-returns Inv-loop μ-loop
 returns c = let a = c .before .before .before .before .before .before .before .before .args in let l′ = c .before .before .before .before .loop in
-    λ l. sym (l′ .inv .1 l ∙ all-here (test (a .counts .now) (a .masks .now) (a .acceptors) l (a .b) (a .s)) (a .masks .now) (8 * a .a + c .before .before .before .before .before .count-of .result) (l′ .i) (c .before .before .before .loop-test .taken) (l′ .inv .0) (not-true _ (sym (some-apart-common (heldGraph (a .acceptors) l (a .counts .now) (a .masks .now)) (a .s) (getD (a .masks .now) (l′ .i) 0) (listOf (a .counts .now) (a .masks .now) (a .b))) ∙ sym (c .before .some-apart .ensures) ∙ c .if1 .taken)))
+    λ l. sym (l′ .inv .1 l ∙ all-here (test (a .counts .now) (a .masks .now) (a .acceptors) l (a .b) (a .s)) (a .masks .now) (maxMasks * a .a + c .before .before .before .before .before .count-of .result) (l′ .i) (c .before .before .before .loop-test .taken) (l′ .inv .0) (not-true _ (sym (some-apart-common (heldGraph (a .acceptors) l (a .counts .now) (a .masks .now)) (a .s) (getD (a .masks .now) (l′ .i) 0) (listOf (a .counts .now) (a .masks .now) (a .b))) ∙ sym (c .before .some-apart .ensures) ∙ c .if1 .taken)))
 
 add-i : tie.Need-add-i Inv-loop μ-loop
 add-i c = search needs
@@ -65,11 +66,11 @@ loop-less c = search needs
 
 loop-again : tie.Need-loop-again Inv-loop μ-loop
 loop-again c = let a = c .before .before .before .before .before .before .before .before .args in let l′ = c .before .before .before .before .loop in
-    (l′ .inv .0, λ l. l′ .inv .1 l ∙ all-past (test (a .counts .now) (a .masks .now) (a .acceptors) l (a .b) (a .s)) (a .masks .now) (8 * a .a + c .before .before .before .before .before .count-of .result) (l′ .i) (c .before .before .before .loop-test .taken) (l′ .inv .0) (not-false _ (sym (some-apart-common (heldGraph (a .acceptors) l (a .counts .now) (a .masks .now)) (a .s) (getD (a .masks .now) (l′ .i) 0) (listOf (a .counts .now) (a .masks .now) (a .b))) ∙ sym (c .before .some-apart .ensures) ∙ c .if1 .left)))
+    (l′ .inv .0, λ l. l′ .inv .1 l ∙ all-past (test (a .counts .now) (a .masks .now) (a .acceptors) l (a .b) (a .s)) (a .masks .now) (maxMasks * a .a + c .before .before .before .before .before .count-of .result) (l′ .i) (c .before .before .before .loop-test .taken) (l′ .inv .0) (not-false _ (sym (some-apart-common (heldGraph (a .acceptors) l (a .counts .now) (a .masks .now)) (a .s) (getD (a .masks .now) (l′ .i) 0) (listOf (a .counts .now) (a .masks .now) (a .b))) ∙ sym (c .before .some-apart .ensures) ∙ c .if1 .left)))
 
 returns-2 : tie.Need-returns-2 Inv-loop μ-loop
 returns-2 c = let a = c .before .before .before .before .before .args in let l′ = c .before .loop in
-    λ l. sym (l′ .inv .1 l ∙ all-end (test (a .counts .now) (a .masks .now) (a .acceptors) l (a .b) (a .s)) (a .masks .now) (8 * a .a + c .before .before .count-of .result) (l′ .i) (c .loop-test .left))
+    λ l. sym (l′ .inv .1 l ∙ all-end (test (a .counts .now) (a .masks .now) (a .acceptors) l (a .b) (a .s)) (a .masks .now) (maxMasks * a .a + c .before .before .count-of .result) (l′ .i) (c .loop-test .left))
 
 pub meets-spec : {M : Type 1} → statement M
 meets-spec =

@@ -7,9 +7,10 @@ use lib.Seq.{slice}
 use borrow.Author.Tests.{not-true, not-false}
 use Rattle.base.specs.Tests.{all}
 use Rattle.base.proofs.Tests.{all-end, all-here, all-past}
-use Rattle.graph.specs.Held.{listOf, heldGraph}
+use Rattle.graph.specs.Limits.{maxMasks}
+use Rattle.graph.specs.Memory.{listOf, heldGraph}
 use Rattle.graph.specs.LearnerGraph.{common, validAt}
-use Rattle.graph.proofs.Held.{list-is}
+use Rattle.graph.proofs.Memory.{list-is}
 use borrow.Author.Needs.{needs}
 use native.Mathlib.Omega.{arith}
 use Rattle.graph.proofs.valid.valid_at.Statement.{statement}
@@ -59,7 +60,7 @@ meets-requires c κs = search needs
 returns : tie.Need-returns Inv-loop μ-loop
 unfolding validAt
 returns c = let a = c .before .before .before .before .before .before .before .before .before .args in let l′ = c .before .before .before .before .loop in
-    λ l. sym (ap (λ (k : ℕ). all (test (a .counts .now) (a .masks .now) (a .acceptors) l (a .a) (a .b)) (listOf (a .counts .now) (a .masks .now) k)) (sym (c .before .before .before .before .before .before .pair-list .ensures .0)) ∙ l′ .inv .1 l ∙ all-here (test (a .counts .now) (a .masks .now) (a .acceptors) l (a .a) (a .b)) (a .masks .now) (8 * c .before .before .before .before .before .before .pair-list .result + c .before .before .before .before .before .count-of .result) (l′ .i) (c .before .before .before .loop-test .taken) (l′ .inv .0) (sym (c .before .meets .ensures l) ∙ not-true (c .before .meets .result) (c .if1 .taken)))
+    λ l. sym (ap (λ (k : ℕ). all (test (a .counts .now) (a .masks .now) (a .acceptors) l (a .a) (a .b)) (listOf (a .counts .now) (a .masks .now) k)) (sym (c .before .before .before .before .before .before .pair-list .ensures .0)) ∙ l′ .inv .1 l ∙ all-here (test (a .counts .now) (a .masks .now) (a .acceptors) l (a .a) (a .b)) (a .masks .now) (maxMasks * c .before .before .before .before .before .before .pair-list .result + c .before .before .before .before .before .count-of .result) (l′ .i) (c .before .before .before .loop-test .taken) (l′ .inv .0) (sym (c .before .meets .ensures l) ∙ not-true (c .before .meets .result) (c .if1 .taken)))
 
 add-i : tie.Need-add-i Inv-loop μ-loop
 add-i c = search needs
@@ -69,12 +70,12 @@ loop-less c = search needs
 
 loop-again : tie.Need-loop-again Inv-loop μ-loop
 loop-again c = let a = c .before .before .before .before .before .before .before .before .before .args in let l′ = c .before .before .before .before .loop in
-    (l′ .inv .0, λ l. l′ .inv .1 l ∙ all-past (test (a .counts .now) (a .masks .now) (a .acceptors) l (a .a) (a .b)) (a .masks .now) (8 * c .before .before .before .before .before .before .pair-list .result + c .before .before .before .before .before .count-of .result) (l′ .i) (c .before .before .before .loop-test .taken) (l′ .inv .0) (sym (c .before .meets .ensures l) ∙ not-false (c .before .meets .result) (c .if1 .left)))
+    (l′ .inv .0, λ l. l′ .inv .1 l ∙ all-past (test (a .counts .now) (a .masks .now) (a .acceptors) l (a .a) (a .b)) (a .masks .now) (maxMasks * c .before .before .before .before .before .before .pair-list .result + c .before .before .before .before .before .count-of .result) (l′ .i) (c .before .before .before .loop-test .taken) (l′ .inv .0) (sym (c .before .meets .ensures l) ∙ not-false (c .before .meets .result) (c .if1 .left)))
 
 returns-2 : tie.Need-returns-2 Inv-loop μ-loop
 unfolding validAt
 returns-2 c = let a = c .before .before .before .before .before .before .args in let l′ = c .before .loop in
-    λ l. sym (ap (λ (k : ℕ). all (test (a .counts .now) (a .masks .now) (a .acceptors) l (a .a) (a .b)) (listOf (a .counts .now) (a .masks .now) k)) (sym (c .before .before .before .pair-list .ensures .0)) ∙ l′ .inv .1 l ∙ all-end (test (a .counts .now) (a .masks .now) (a .acceptors) l (a .a) (a .b)) (a .masks .now) (8 * c .before .before .before .pair-list .result + c .before .before .count-of .result) (l′ .i) (c .loop-test .left))
+    λ l. sym (ap (λ (k : ℕ). all (test (a .counts .now) (a .masks .now) (a .acceptors) l (a .a) (a .b)) (listOf (a .counts .now) (a .masks .now) k)) (sym (c .before .before .before .pair-list .ensures .0)) ∙ l′ .inv .1 l ∙ all-end (test (a .counts .now) (a .masks .now) (a .acceptors) l (a .a) (a .b)) (a .masks .now) (maxMasks * c .before .before .before .pair-list .result + c .before .before .count-of .result) (l′ .i) (c .loop-test .left))
 
 pub valid-at-spec : {M : Type 1} → statement M
 valid-at-spec =

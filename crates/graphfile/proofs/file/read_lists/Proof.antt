@@ -6,8 +6,8 @@ use borrow.Author.Tests.{eq-eqb, ne-eqb}
 use Rattle.base.specs.Tests.{pick}
 use Rattle.base.specs.declared.refusal.Refusal.the-variants.{Length}
 use Rattle.graphfile.specs.File.{got, no}
-use Rattle.graphfile.specs.Held.{Held}
-use Rattle.graphfile.proofs.Whole.{quorums-no, quorums-end, rows-no, all-read, lists-no, lists-yes}
+use Rattle.graphfile.specs.Arrays.{ListArrays}
+use Rattle.graphfile.proofs.Files.{quorums-no, quorums-end, rows-no, all-read, lists-no, lists-yes}
 use borrow.Author.Needs.{needs}
 use Rattle.graphfile.proofs.file.read_lists.Statement.{statement}
 use Rattle.graphfile.proofs.file.read_lists.Tie as tie
@@ -33,8 +33,8 @@ returns c =
     let s = a .s .now in
     let n = a .acceptors in
     let l = a .learners in
-    let b : Held = record { counts = a .counts .now; masks = a .masks .now } in
-    let long = c .before .before .before .before .before .before .before .before .before .before .before .before .before .pre .1 .0 in
+    let b : ListArrays = record { counts = a .counts .now; masks = a .masks .now } in
+    let long = c .before .before .before .before .before .before .before .before .before .before .before .before .before .pre .0 .inside in
     lists-no s n l long b (c .before .r .given .0 .0) _ (quorums-no s n l long b (c .before .before .before .before .before .before .before .read-quorums .result) _ (c .before .r .given .0 .0) (c .before .before .before .before .before .before .before .read-quorums .ensures) (c .before .r .given .1))
 
 read-rows-requires : tie.Need-read-rows-requires
@@ -43,9 +43,10 @@ read-rows-requires c κs =
     let s = a .s .now in
     let n = a .acceptors in
     let l = a .learners in
-    let b : Held = record { counts = a .counts .now; masks = a .masks .now } in
-    let long = c .before .before .before .before .before .before .before .before .before .before .before .before .before .before .before .pre .1 .0 in
-    (c .before .before .before .before .before .before .before .before .before .before .before .before .before .before .before .pre .0, (quorums-end s n l long b (c .before .before .before .before .before .before .before .before .before .read-quorums .result) _ (c .before .before .before .at .given .0 .0) (c .before .before .before .before .before .before .before .before .before .read-quorums .ensures) (c .before .before .before .at .given .1), (c .before .before .before .before .before .before .before .before .before .before .before .before .before .before .before .pre .1 .1 .0, (c .before .before .before .before .before .before .before .before .before .before .before .before .before .before .before .pre .1 .1 .1 .0, (search needs, search needs)))))
+    let b : ListArrays = record { counts = a .counts .now; masks = a .masks .now } in
+    let long = c .before .before .before .before .before .before .before .before .before .before .before .before .before .before .before .pre .0 .inside in
+    let p = c .before .before .before .before .before .before .before .before .before .before .before .before .before .before .before .pre in
+    (record { short = p .0 .short; inside = quorums-end s n l long b (c .before .before .before .before .before .before .before .before .before .read-quorums .result) _ (c .before .before .before .at .given .0 .0) (c .before .before .before .before .before .before .before .before .before .read-quorums .ensures) (c .before .before .before .at .given .1); acceptors = p .0 .acceptors }, record { few = p .1 .few; sized = (search needs, search needs) })
 
 enum-known-end : tie.Need-enum-known-end
 enum-known-end c = search needs
@@ -65,8 +66,8 @@ returns-2 c =
     let s = a .s .now in
     let n = a .acceptors in
     let l = a .learners in
-    let b : Held = record { counts = a .counts .now; masks = a .masks .now } in
-    let long = c .before .before .before .before .before .before .before .before .before .before .before .before .before .before .before .before .before .before .before .before .before .before .before .pre .1 .0 in
+    let b : ListArrays = record { counts = a .counts .now; masks = a .masks .now } in
+    let long = c .before .before .before .before .before .before .before .before .before .before .before .before .before .before .before .before .before .before .before .before .before .before .before .pre .0 .inside in
     lists-no s n l long b (c .before .r2 .given .0 .0) _ (rows-no s n l long b (c .before .before .before .before .before .before .before .before .before .before .before .before .before .before .before .before .before .read-quorums .result) _ (c .before .before .before .before .before .before .before .before .before .before .before .at .given .0 .0) (c .before .before .before .before .before .before .before .before .before .before .before .before .before .before .before .before .before .read-quorums .ensures) (c .before .before .before .before .before .before .before .before .before .before .before .at .given .1)
     (c .before .before .before .before .before .before .before .read-rows .result) _ (c .before .before .before .before .before .before .before .read-rows .ensures) (c .before .r2 .given .0 .0) (c .before .r2 .given .1))
 
@@ -82,8 +83,8 @@ returns-3 c =
     let s = a .s .now in
     let n = a .acceptors in
     let l = a .learners in
-    let b : Held = record { counts = a .counts .now; masks = a .masks .now } in
-    let long = c .before .before .before .before .before .before .before .before .before .before .before .before .before .before .before .before .before .before .before .before .before .before .before .before .pre .1 .0 in
+    let b : ListArrays = record { counts = a .counts .now; masks = a .masks .now } in
+    let long = c .before .before .before .before .before .before .before .before .before .before .before .before .before .before .before .before .before .before .before .before .before .before .before .before .pre .0 .inside in
     let e = c .before .before .end .given .0 .0 in
     let (f, g, h) = all-read s n l long b (c .before .before .before .before .before .before .before .before .before .before .before .before .before .before .before .before .before .before .read-quorums .result) _ (c .before .before .before .before .before .before .before .before .before .before .before .before .at .given .0 .0) (c .before .before .before .before .before .before .before .before .before .before .before .before .before .before .before .before .before .before .read-quorums .ensures) (c .before .before .before .before .before .before .before .before .before .before .before .before .at .given .1)
     (c .before .before .before .before .before .before .before .before .read-rows .result) _ (c .before .before .before .before .before .before .before .before .read-rows .ensures) e (c .before .before .end .given .1)
@@ -102,8 +103,8 @@ returns-4 c =
     let s = a .s .now in
     let n = a .acceptors in
     let l = a .learners in
-    let b : Held = record { counts = a .counts .now; masks = a .masks .now } in
-    let long = c .before .before .before .before .before .before .before .before .before .before .before .before .before .before .before .before .before .before .before .before .before .before .before .before .pre .1 .0 in
+    let b : ListArrays = record { counts = a .counts .now; masks = a .masks .now } in
+    let long = c .before .before .before .before .before .before .before .before .before .before .before .before .before .before .before .before .before .before .before .before .before .before .before .before .pre .0 .inside in
     let e = c .before .before .end .given .0 .0 in
     let (f, g, h) = all-read s n l long b (c .before .before .before .before .before .before .before .before .before .before .before .before .before .before .before .before .before .before .read-quorums .result) _ (c .before .before .before .before .before .before .before .before .before .before .before .before .at .given .0 .0) (c .before .before .before .before .before .before .before .before .before .before .before .before .before .before .before .before .before .before .read-quorums .ensures) (c .before .before .before .before .before .before .before .before .before .before .before .before .at .given .1)
     (c .before .before .before .before .before .before .before .before .read-rows .result) _ (c .before .before .before .before .before .before .before .before .read-rows .ensures) e (c .before .before .end .given .1)

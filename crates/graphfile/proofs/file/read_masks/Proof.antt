@@ -4,7 +4,8 @@ use lib.ListN.{length, length-set, length-append}
 use mathlib.Core.List.{List, [], _∷_, _++_}
 use Rattle.base.specs.Bytes.{be, putAt}
 use Rattle.graphfile.specs.File.{Got, last, maskAnswer, readMasks}
-use Rattle.graphfile.specs.Held.{MasksHeld}
+use Rattle.graphfile.specs.Arrays.{MasksHeld}
+use Rattle.graph.specs.Limits.{maskBytes}
 use Rattle.graph.specs.declared.Answer.{Answer}
 use Rattle.graph.specs.declared.Answer.the-variants as Answer
 use Rattle.graphfile.specs.declared.file.Field.{Field}
@@ -32,7 +33,7 @@ abbrev μ-loop : tie.MeasureT-loop
 loop-holds : tie.Need-loop-holds Inv-loop μ-loop
 unfolding last
 loop-holds c = let a = c .before .before .args in let e : a .count ≡ a .count - 0 = omega arith in
-    (omega arith, c .before .before .pre .1 .0, refl, [], refl, paste-zero (a .masks .now) (a .first) [], refl, ap (λ (k : ℕ). readMasks (a .s .now) (a .acceptors) k [] (a .at)) e)
+    (omega arith, c .before .before .pre .0 .inside, refl, [], refl, paste-zero (a .masks .now) (a .first) [], refl, ap (λ (k : ℕ). readMasks (a .s .now) (a .acceptors) k [] (a .at)) e)
 
 add-if1 : tie.Need-add-if1 Inv-loop μ-loop
 add-if1 c = search needs
@@ -53,7 +54,7 @@ add-mask-answer c = search needs
 
 mask-answer-requires : tie.Need-mask-answer-requires Inv-loop μ-loop
 mask-answer-requires c κs = let a = c .before .before .before .before .before .before .before .args in let l = c .before .before .before .before .loop in let (hj, hh, hl, e, le, me, pe, re) = l .inv in
-    (omega arith, (c .before .before .before .before .before .before .before .pre .1 .1 .0, pe ∙ ap (last 0) (sym (part-put (a .masks .now) e (l .masks) (a .first) (l .j) me le (omega arith)))))
+    (omega arith, (c .before .before .before .before .before .before .before .pre .0 .acceptors, pe ∙ ap (last 0) (sym (part-put (a .masks .now) e (l .masks) (a .first) (l .j) me le (omega arith)))))
 
 enum-known-r : tie.Need-enum-known-r Inv-loop μ-loop
 enum-known-r c = search needs
@@ -65,7 +66,7 @@ returns-2 : tie.Need-returns-2 Inv-loop μ-loop
 returns-2 c = let a = c .before .before .before .before .before .before .before .before .before .before .before .args in let l = c .before .before .before .before .before .before .before .before .loop in let (hj, hh, hl, e, le, me, pe, re) = l .inv in let k : a .count - l .j ≡ suc (a .count - (l .j + 1)) = omega arith in
     let q = part-put (a .masks .now) e (l .masks) (a .first) (l .j) me le (omega arith) in
     let r = c .before .r .given .0 .0 in
-    let f : maskAnswer (a .acceptors) e (be 2 (a .s .now) (l .here)) ≡ Answer.Refused r = sym (ap₂ (maskAnswer (a .acceptors)) q (c .before .before .before .before .before .read-mask .ensures)) ∙ sym (c .before .before .before .mask-answer .ensures) ∙ c .before .r .given .1 in
+    let f : maskAnswer (a .acceptors) e (be maskBytes (a .s .now) (l .here)) ≡ Answer.Refused r = sym (ap₂ (maskAnswer (a .acceptors)) q (c .before .before .before .before .before .read-mask .ensures)) ∙ sym (c .before .before .before .mask-answer .ensures) ∙ c .before .r .given .1 in
     subst (λ (g : Got (List ℕ)). MasksHeld g (Field.Refused r) (a .first) (a .masks .now) (l .masks))
     (sym (re ∙ ap (λ (x : ℕ). readMasks (a .s .now) (a .acceptors) x e (l .here)) k ∙ masks-go (a .s .now) (a .acceptors) (a .count - (l .j + 1)) e (l .here) (Answer.Refused r) (c .before .before .before .before .before .before .if1 .left) f)) refl
 
@@ -94,7 +95,7 @@ loop-again : tie.Need-loop-again Inv-loop μ-loop
 loop-again c = let a = c .before .before .before .before .before .before .before .before .before .before .args in let l = c .before .before .before .before .before .before .before .loop in let (hj, hh, hl, e, le, me, pe, re) = l .inv in let k : a .count - l .j ≡ suc (a .count - (l .j + 1)) = omega arith in
     let q = part-put (a .masks .now) e (l .masks) (a .first) (l .j) me le (omega arith) in
     let m = c .before .before .before .before .read-mask .result in
-    let f : maskAnswer (a .acceptors) e (be 2 (a .s .now) (l .here)) ≡ Answer.Accepted = sym (ap₂ (maskAnswer (a .acceptors)) q (c .before .before .before .before .read-mask .ensures)) ∙ sym (c .before .before .mask-answer .ensures) ∙ c .enum-told .given .1 in (
+    let f : maskAnswer (a .acceptors) e (be maskBytes (a .s .now) (l .here)) ≡ Answer.Accepted = sym (ap₂ (maskAnswer (a .acceptors)) q (c .before .before .before .before .read-mask .ensures)) ∙ sym (c .before .before .mask-answer .ensures) ∙ c .enum-told .given .1 in (
       omega arith,
       c .before .before .before .before .before .if1 .left,
       length-set (l .masks) (a .first + l .j) m ∙ hl,
@@ -103,7 +104,7 @@ loop-again c = let a = c .before .before .before .before .before .before .before
       put-more (a .masks .now) e (l .masks) (a .first) (l .j) m me le (omega arith),
       sym (last-snoc 0 e m),
       re ∙ ap (λ (x : ℕ). readMasks (a .s .now) (a .acceptors) x e (l .here)) k ∙ masks-go (a .s .now) (a .acceptors) (a .count - (l .j + 1)) e (l .here) Answer.Accepted (c .before .before .before .before .before .if1 .left) f
-          ∙ ap (λ (x : ℕ). readMasks (a .s .now) (a .acceptors) (a .count - (l .j + 1)) (e ++ (x ∷ [])) (l .here + 2)) (sym (c .before .before .before .before .read-mask .ensures)),
+          ∙ ap (λ (x : ℕ). readMasks (a .s .now) (a .acceptors) (a .count - (l .j + 1)) (e ++ (x ∷ [])) (l .here + maskBytes)) (sym (c .before .before .before .before .read-mask .ensures)),
     )
 
 same-length-3 : tie.Need-same-length-3 Inv-loop μ-loop

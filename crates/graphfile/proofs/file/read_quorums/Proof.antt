@@ -5,8 +5,8 @@ use mathlib.Core.List.{List}
 use Rattle.graphfile.specs.File.{Got, last}
 use Rattle.graphfile.specs.declared.file.Field.{Field}
 use Rattle.graphfile.specs.declared.file.Field.the-variants as Field
-use Rattle.graph.specs.Held.{Sized}
-use Rattle.graphfile.specs.Held.{holdAll, HeldAfter}
+use Rattle.graph.specs.Memory.{GraphSized}
+use Rattle.graphfile.specs.Arrays.{holdAll, HeldAfter}
 use Rattle.graphfile.proofs.Reader.{Filled, filled-none, filled-no, filled-got, filled-more, filled-all}
 use borrow.Author.Needs.{needs}
 use native.Mathlib.Omega.{arith}
@@ -20,18 +20,18 @@ use Rattle.graphfile.proofs.file.read_quorums.Tie as tie
 -- needs
 
 abbrev Inv-loop : tie.InvT-loop
-Inv-loop s at acceptors learners counts₀ masks₀ here₀ a₀ counts masks here a = (a ≤ learners) × (here ≤ length s) × Sized counts masks × Filled s acceptors 1 learners at 0 (λ x. x) (record { counts = counts₀; masks = masks₀ }) here a (record { counts = counts; masks = masks })
+Inv-loop s at acceptors learners counts₀ masks₀ here₀ a₀ counts masks here a = (a ≤ learners) × (here ≤ length s) × GraphSized counts masks × Filled s acceptors 1 learners at 0 (λ x. x) (record { counts = counts₀; masks = masks₀ }) here a (record { counts = counts; masks = masks })
 
 abbrev μ-loop : tie.MeasureT-loop
 μ-loop s at acceptors learners counts₀ masks₀ here₀ a₀ counts masks here a = learners - a
 
 loop-holds : tie.Need-loop-holds Inv-loop μ-loop
 loop-holds c = let a = c .before .before .before .args in
-    (omega arith, c .before .before .before .pre .1 .0, c .before .before .before .pre .1 .1 .1 .1, filled-none (a .s .now) (a .acceptors) 1 (a .learners) (a .at) 0 (λ x. x) (record { counts = a .counts .now; masks = a .masks .now }))
+    (omega arith, c .before .before .before .pre .0 .inside, c .before .before .before .pre .1 .sized, filled-none (a .s .now) (a .acceptors) 1 (a .learners) (a .at) 0 (λ x. x) (record { counts = a .counts .now; masks = a .masks .now }))
 
 read-list-requires : tie.Need-read-list-requires Inv-loop μ-loop
-read-list-requires c κs = let a = c .before .before .before .before .before .before .args in let l = c .before .before .loop in let (h, e, z, F) = l .inv in
-    (c .before .before .before .before .before .before .pre .0, (e, (c .before .before .before .before .before .before .pre .1 .1 .0, (omega arith, z .1))))
+read-list-requires c κs = let a = c .before .before .before .before .before .before .args in let l = c .before .before .loop in let (h, e, z, F) = l .inv in let p = c .before .before .before .before .before .before .pre .0 in
+    (record { short = p .short; inside = e; acceptors = p .acceptors }, (omega arith, z .1))
 
 enum-known-next : tie.Need-enum-known-next Inv-loop μ-loop
 enum-known-next c = search needs

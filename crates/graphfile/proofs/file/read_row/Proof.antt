@@ -5,8 +5,8 @@ use mathlib.Core.List.{List}
 use Rattle.graphfile.specs.File.{Got, last}
 use Rattle.graphfile.specs.declared.file.Field.{Field}
 use Rattle.graphfile.specs.declared.file.Field.the-variants as Field
-use Rattle.graph.specs.Held.{pairList, Sized}
-use Rattle.graphfile.specs.Held.{holdAll, HeldAfter}
+use Rattle.graph.specs.Memory.{pairList, GraphSized}
+use Rattle.graphfile.specs.Arrays.{holdAll, HeldAfter}
 use Rattle.graphfile.proofs.Reader.{Filled, filled-none, filled-no, filled-got, filled-more, filled-all}
 use borrow.Author.Needs.{needs}
 use native.Mathlib.Omega.{arith}
@@ -20,7 +20,7 @@ use Rattle.graphfile.proofs.file.read_row.Tie as tie
 -- needs
 
 abbrev Inv-loop : tie.InvT-loop
-Inv-loop s at acceptors learners a counts₀ masks₀ here₀ b₀ counts masks here b = (b ≤ learners) × (here ≤ length s) × Sized counts masks × (a ≤ b) × Filled s acceptors 0 (learners - a) at a (pairList a) (record { counts = counts₀; masks = masks₀ }) here (b - a) (record { counts = counts; masks = masks })
+Inv-loop s at acceptors learners a counts₀ masks₀ here₀ b₀ counts masks here b = (b ≤ learners) × (here ≤ length s) × GraphSized counts masks × (a ≤ b) × Filled s acceptors 0 (learners - a) at a (pairList a) (record { counts = counts₀; masks = masks₀ }) here (b - a) (record { counts = counts; masks = masks })
 
 abbrev μ-loop : tie.MeasureT-loop
 μ-loop s at acceptors learners a counts₀ masks₀ here₀ b₀ counts masks here b = learners - b
@@ -28,8 +28,8 @@ abbrev μ-loop : tie.MeasureT-loop
 loop-holds : tie.Need-loop-holds Inv-loop μ-loop
 loop-holds c = let a = c .before .before .before .args in (
   omega arith,
-  c .before .before .before .pre .1 .0,
-  c .before .before .before .pre .1 .1 .1 .1 .1,
+  c .before .before .before .pre .1 .0 .inside,
+  c .before .before .before .pre .1 .1 .sized,
   omega arith,
   subst (λ (j : ℕ). Filled (a .s .now) (a .acceptors) 0 (a .learners - a .a) (a .at) (a .a) (pairList (a .a)) (record { counts = a .counts .now; masks = a .masks .now }) (a .at) j (record { counts = a .counts .now; masks = a .masks .now })) (let z : 0 ≡ a .a - a .a = omega arith in z)
       (filled-none (a .s .now) (a .acceptors) 0 (a .learners - a .a) (a .at) (a .a) (pairList (a .a)) (record { counts = a .counts .now; masks = a .masks .now })),
@@ -39,8 +39,8 @@ pair-list-requires : tie.Need-pair-list-requires Inv-loop μ-loop
 pair-list-requires c κs = search needs
 
 read-list-requires : tie.Need-read-list-requires Inv-loop μ-loop
-read-list-requires c κs = let a = c .before .before .before .before .before .before .before .args in let l = c .before .before .before .loop in let (h, e, z, o, F) = l .inv in
-    (c .before .before .before .before .before .before .before .pre .0, (e, (c .before .before .before .before .before .before .before .pre .1 .1 .0, (c .before .pair-list .ensures .1, z .1))))
+read-list-requires c κs = let a = c .before .before .before .before .before .before .before .args in let l = c .before .before .before .loop in let (h, e, z, o, F) = l .inv in let p = c .before .before .before .before .before .before .before .pre .1 .0 in
+    (record { short = p .short; inside = e; acceptors = p .acceptors }, (c .before .pair-list .ensures .1, z .1))
 
 enum-known-next : tie.Need-enum-known-next Inv-loop μ-loop
 enum-known-next c = search needs

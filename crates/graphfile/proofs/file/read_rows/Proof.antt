@@ -5,8 +5,8 @@ use mathlib.Core.List.{List}
 use Rattle.graphfile.specs.File.{Got, last}
 use Rattle.graphfile.specs.declared.file.Field.{Field}
 use Rattle.graphfile.specs.declared.file.Field.the-variants as Field
-use Rattle.graph.specs.Held.{Sized}
-use Rattle.graphfile.specs.Held.{holdRows, HeldAfter}
+use Rattle.graph.specs.Memory.{GraphSized}
+use Rattle.graphfile.specs.Arrays.{holdRows, HeldAfter}
 use Rattle.graphfile.proofs.Reader.{RowsFilled, rows-none, rows-no, rows-filled, rows-all}
 use borrow.Author.Needs.{needs}
 use native.Mathlib.Omega.{arith}
@@ -20,16 +20,17 @@ use Rattle.graphfile.proofs.file.read_rows.Tie as tie
 -- needs
 
 abbrev Inv-loop : tie.InvT-loop
-Inv-loop s at acceptors learners counts₀ masks₀ here₀ a₀ counts masks here a = (a ≤ learners) × (here ≤ length s) × Sized counts masks × RowsFilled s acceptors learners at (record { counts = counts₀; masks = masks₀ }) here a (record { counts = counts; masks = masks })
+Inv-loop s at acceptors learners counts₀ masks₀ here₀ a₀ counts masks here a = (a ≤ learners) × (here ≤ length s) × GraphSized counts masks × RowsFilled s acceptors learners at (record { counts = counts₀; masks = masks₀ }) here a (record { counts = counts; masks = masks })
 
 abbrev μ-loop : tie.MeasureT-loop
 μ-loop s at acceptors learners counts₀ masks₀ here₀ a₀ counts masks here a = learners - a
 
 loop-holds : tie.Need-loop-holds Inv-loop μ-loop
-loop-holds c = let a = c .before .before .before .args in (omega arith, c .before .before .before .pre .1 .0, c .before .before .before .pre .1 .1 .1 .1, rows-none (a .s .now) (a .acceptors) (a .learners) (a .at) (record { counts = a .counts .now; masks = a .masks .now }))
+loop-holds c = let a = c .before .before .before .args in (omega arith, c .before .before .before .pre .0 .inside, c .before .before .before .pre .1 .sized, rows-none (a .s .now) (a .acceptors) (a .learners) (a .at) (record { counts = a .counts .now; masks = a .masks .now }))
 
 read-row-requires : tie.Need-read-row-requires Inv-loop μ-loop
-read-row-requires c κs = let l = c .before .before .before .loop in let (h, e, z, F) = l .inv in (c .before .before .before .before .before .before .before .pre .0, (e, (c .before .before .before .before .before .before .before .pre .1 .1 .0, (c .before .before .before .before .before .before .before .pre .1 .1 .1 .0, (h, z)))))
+read-row-requires c κs = let l = c .before .before .before .loop in let (h, e, z, F) = l .inv in let p = c .before .before .before .before .before .before .before .pre in
+    (h, (record { short = p .0 .short; inside = e; acceptors = p .0 .acceptors }, record { few = p .1 .few; sized = z }))
 
 enum-known-next : tie.Need-enum-known-next Inv-loop μ-loop
 enum-known-next c = search needs

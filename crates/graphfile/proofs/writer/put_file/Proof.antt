@@ -3,7 +3,7 @@ use mathlib.Core.List.{List, [], _∷_}
 use Prim.Native.Nat.{ℕ, _+_, _≤_}
 use lib.ListN.{length}
 use Rattle.base.specs.Bytes.{putAt}
-use Rattle.graph.specs.Held.{heldGraph}
+use Rattle.graph.specs.Memory.{heldGraph}
 use Rattle.graphfile.specs.File.{learnersAt, Contents}
 use Rattle.graphfile.specs.Writer.{fileBytes, contentsOf, PutIn}
 use Rattle.graphfile.proofs.Putting.{file-least, file-length, file-most, headed, quorums-room, rows-room, body-end, file-put}

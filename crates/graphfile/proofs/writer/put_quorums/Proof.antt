@@ -2,7 +2,7 @@
 use mathlib.Core.Path.{_≡_, refl, ap}
 use Prim.Native.Nat.{ℕ, _-_, _≤_}
 use lib.ListN.{length}
-use Rattle.graph.specs.Held.{listOf}
+use Rattle.graph.specs.Memory.{listOf}
 use Rattle.graphfile.specs.Writer.{listsBytes, listed, quorumsOf}
 use Rattle.graphfile.proofs.Putting.{putting-from, ListsPut, list-room, list-more, lists-all}
 use borrow.Author.Needs.{needs}

@@ -1,28 +1,33 @@
-use mathlib.Core.Path.{_≡_, _∙_}
-use mathlib.Core.List.{List, [], _∷_}
-use Prim.Native.Nat.{ℕ, _+_, _*_, _^_, _≤_, _<_}
-use native.Mathlib.Omega.{arith}
+use mathlib.Core.List.{List, _∷_, []}
+use Prim.Native.Nat.{ℕ, _≤_, _<_, _^_, _+_, _*_}
 use lib.ListN.{length, getD, set}
-use Rattle.base.specs.Bytes.{bytes, part, putAt}
-use Rattle.base.proofs.Bytes.{bytes-length, part-length}
-use Rattle.protocol.specs.Ids.{Id}
-use Rattle.roundbytes.specs.Layout.{numbers, roundLen, roundIn, Kept}
-use Rattle.roundbytes.proofs.InPlace.{unwritten, put-next, one-next, round-then, of-parts, numbers-put}
-use Rattle.holding.specs.Row.{withRow}
+use mathlib.Core.Path.{_≡_, _∙_}
+use native.Mathlib.Omega.{arith}
 use borrow.Author.Needs.{needs}
+use Rattle.protocol.specs.Ids.{Id}
+use Rattle.roundbytes.specs.Layout.{roundLen, heldAt, idsAt, kindsAt, signersAt, ballotsAt, previousAt, countsAt, knownAt, recentAt, roundIn, Kept, numbers}
+use Rattle.round.specs.Limits.{maxHeld}
+use Rattle.message.specs.Layout.{idLen}
+use Rattle.base.specs.Bytes.{putAt, bytes, part}
+use Rattle.round.specs.Delivery.{withRow}
+use Rattle.base.proofs.Bytes.{bytes-length, part-length}
+use Rattle.roundbytes.proofs.InPlace.{put-next, unwritten, one-next, of-parts, numbers-put, round-then}
+use Rattle.protocol.specs.Message.{signers, references}
+use Rattle.roundbytes.proofs.Fields.{held-in}
+use Rattle.round.specs.Handed.{fits}
 use Rattle.holding.proofs.hold.put_row.Statement.{statement}
 use Rattle.holding.proofs.hold.put_row.Tie as tie
 
 -- the nine writes, one after the other, are the row
-row : (s s₁ s₂ s₃ s₄ s₅ s₆ s₇ s₈ s₉ : List ℕ) (id : Id) (p kind signer ballot previous count known : ℕ) → roundLen ≤ length s → p < 128 → p ≡ getD s 1460 0 → length id ≡ 32 → ballot < 256 ^ 8
-    → s₁ ≡ putAt s (1462 + 32 * p) id → s₂ ≡ putAt s₁ (5558 + p) (kind ∷ []) → s₃ ≡ putAt s₂ (5686 + p) (signer ∷ []) → s₄ ≡ putAt s₃ (5814 + 8 * p) (bytes 8 ballot)
-    → s₅ ≡ putAt s₄ (6838 + p) (previous ∷ []) → s₆ ≡ putAt s₅ (6966 + p) (count ∷ []) → s₇ ≡ putAt s₆ (23478 + p) (known ∷ []) → s₈ ≡ putAt s₇ (23606 + p) (0 ∷ [])
-    → s₉ ≡ putAt s₈ 1460 ((getD s 1460 0 + 1) ∷ [])
+row : (s s₁ s₂ s₃ s₄ s₅ s₆ s₇ s₈ s₉ : List ℕ) (id : Id) (p kind signer ballot previous count known : ℕ) → roundLen ≤ length s → p < maxHeld → p ≡ getD s heldAt 0 → length id ≡ idLen → ballot < 256 ^ 8
+    → s₁ ≡ putAt s (idsAt + idLen * p) id → s₂ ≡ putAt s₁ (kindsAt + p) (kind ∷ []) → s₃ ≡ putAt s₂ (signersAt + p) (signer ∷ []) → s₄ ≡ putAt s₃ (ballotsAt + 8 * p) (bytes 8 ballot)
+    → s₅ ≡ putAt s₄ (previousAt + p) (previous ∷ []) → s₆ ≡ putAt s₅ (countsAt + p) (count ∷ []) → s₇ ≡ putAt s₆ (knownAt + p) (known ∷ []) → s₈ ≡ putAt s₇ (recentAt + p) (0 ∷ [])
+    → s₉ ≡ putAt s₈ heldAt ((getD s heldAt 0 + 1) ∷ [])
     → (roundIn s₉ ≡ withRow (roundIn s) (roundIn s .references) id kind signer ballot previous count known) × Kept s s₉
-unfolding roundIn withRow
+unfolding roundIn
 row s s₁ s₂ s₃ s₄ s₅ s₆ s₇ s₈ s₉ id p kind signer ballot previous count known n h e l fit e₁ e₂ e₃ e₄ e₅ e₆ e₇ e₈ e₉ =
     let b = bytes-length 8 ballot in
-    let w₁ = put-next s s s₁ id 3 (32 * p) n (unwritten s) e₁ (omega arith) (omega arith) in
+    let w₁ = put-next s s s₁ id 3 (idLen * p) n (unwritten s) e₁ (omega arith) (omega arith) in
     let w₂ = one-next s s₁ s₂ 4 p kind n w₁ e₂ h (omega arith) in
     let w₃ = one-next s s₂ s₃ 5 p signer n w₂ e₃ h (omega arith) in
     let w₄ = put-next s s₃ s₄ (bytes 8 ballot) 6 (8 * p) n w₃ e₄ (omega arith) (omega arith) in
@@ -30,11 +35,11 @@ row s s₁ s₂ s₃ s₄ s₅ s₆ s₇ s₈ s₉ id p kind signer ballot previ
     let w₆ = one-next s s₅ s₆ 8 p count n w₅ e₆ h (omega arith) in
     let w₇ = one-next s s₆ s₇ 10 p known n w₆ e₇ h (omega arith) in
     let w₈ = one-next s s₇ s₈ 11 p 0 n w₇ e₈ h (omega arith) in
-    let w₉ = put-next s s₈ s₉ ((getD s 1460 0 + 1) ∷ []) 1 0 n w₈ e₉ (omega arith) (omega arith) in
+    let w₉ = put-next s s₈ s₉ ((getD s heldAt 0 + 1) ∷ []) 1 0 n w₈ e₉ (omega arith) (omega arith) in
     let q = of-parts s n in
-    let m : length (part 1024 s 5814) ≡ 1024 = part-length 1024 s 5814 (omega arith) in
-    let g : numbers 8 128 (putAt (part 1024 s 5814) (8 * p) (bytes 8 ballot)) 0 ≡ set (numbers 8 128 s 5814) (getD s 1460 0) ballot =
-    numbers-put (part 1024 s 5814) p ballot fit 128 h (omega arith) ∙ (λ i. set (q i .ballots) (e i) ballot) in
+    let m : length (part (8 * maxHeld) s ballotsAt) ≡ (8 * maxHeld) = part-length (8 * maxHeld) s ballotsAt (omega arith) in
+    let g : numbers 8 maxHeld (putAt (part (8 * maxHeld) s ballotsAt) (8 * p) (bytes 8 ballot)) 0 ≡ set (numbers 8 maxHeld s ballotsAt) (getD s heldAt 0) ballot =
+    numbers-put (part (8 * maxHeld) s ballotsAt) p ballot fit maxHeld h (omega arith) ∙ (λ i. set (q i .ballots) (e i) ballot) in
     let r = roundIn s in (
       round-then s s₉ n w₉
           ∙ (λ i. record {
@@ -44,7 +49,7 @@ row s s₁ s₂ s₃ s₄ s₅ s₆ s₇ s₈ s₉ id p kind signer ballot previ
             own = q i .own;
             held = r .held + 1;
             last = q i .last;
-            ids = putAt (r .ids) (32 * e i) id;
+            ids = putAt (r .ids) (idLen * e i) id;
             kinds = set (r .kinds) (e i) kind;
             signers = set (r .signers) (e i) signer;
             ballots = g i;
@@ -122,13 +127,14 @@ put8-requires-6 c κs = let k0 : length (c .before .before .before .before .befo
     let k4 : length (c .before .before .before .before .before .before .before .before .before .before .before .put83 .last .0) ≡ length (c .before .before .before .before .before .before .before .before .before .before .before .before .before .before .before .put64 .last .0) = c .before .before .before .before .before .before .before .before .before .before .before .put83 .kept .0 in
     let k5 : length (c .before .before .before .before .before .before .before .put84 .last .0) ≡ length (c .before .before .before .before .before .before .before .before .before .before .before .put83 .last .0) = c .before .before .before .before .before .before .before .put84 .kept .0 in
     let k6 : length (c .before .before .before .put85 .last .0) ≡ length (c .before .before .before .before .before .before .before .put84 .last .0) = c .before .before .before .put85 .kept .0 in
-    let n = c .before .before .before .before .before .before .before .before .before .before .before .before .before .before .before .before .before .before .before .before .before .before .before .before .before .before .before .before .before .before .before .before .before .pre .0 in
-    let q = c .before .before .before .before .before .before .before .before .before .before .before .before .before .before .before .before .before .before .before .before .before .before .before .before .before .before .before .before .before .before .before .before .before .pre .1 .0 in
+    let n = c .before .before .before .before .before .before .before .before .before .before .before .before .before .before .before .before .before .before .before .before .before .before .before .before .before .before .before .before .before .before .before .before .before .pre .long in
+    let q = c .before .before .before .before .before .before .before .before .before .before .before .before .before .before .before .before .before .before .before .before .before .before .before .before .before .before .before .before .before .before .before .before .before .pre .room in
+    let held = held-in (c .before .before .before .before .before .before .before .before .before .before .before .before .before .before .before .before .before .before .before .before .before .before .before .before .before .before .before .before .before .before .before .before .before .args .s .now) in
     let e = c .before .before .before .before .before .before .before .before .before .before .before .before .before .before .before .before .before .before .before .before .before .before .before .before .before .before .before .before .before .size .ensures .0 in
     omega arith
 
 add-put8-7 : tie.Need-add-put8-7
-add-put8-7 c = let q = c .before .before .before .before .before .before .before .before .before .before .before .before .before .before .before .before .before .before .before .before .before .before .before .before .before .before .before .before .before .before .before .before .before .before .before .before .before .pre .1 .0 in record { fits = omega arith }
+add-put8-7 c = let q = c .before .before .before .before .before .before .before .before .before .before .before .before .before .before .before .before .before .before .before .before .before .before .before .before .before .before .before .before .before .before .before .before .before .before .before .before .before .pre .room in let held = held-in (c .before .before .before .before .before .before .before .before .before .before .before .before .before .before .before .before .before .before .before .before .before .before .before .before .before .before .before .before .before .before .before .before .before .before .before .before .before .args .s .now) in record { fits = omega arith }
 
 put8-requires-7 : tie.Need-put8-requires-7
 put8-requires-7 c κs = let k0 : length (c .before .before .before .before .before .before .before .before .before .before .before .before .before .before .before .before .before .before .before .before .before .before .before .before .before .before .before .before .before .before .before .put-all .last .0) ≡ length (c .before .before .before .before .before .before .before .before .before .before .before .before .before .before .before .before .before .before .before .before .before .before .before .before .before .before .before .before .before .before .before .before .before .before .before .before .before .args .s .now) = c .before .before .before .before .before .before .before .before .before .before .before .before .before .before .before .before .before .before .before .before .before .before .before .before .before .before .before .before .before .before .before .put-all .kept .0 in
@@ -139,7 +145,7 @@ put8-requires-7 c κs = let k0 : length (c .before .before .before .before .befo
     let k5 : length (c .before .before .before .before .before .before .before .before .before .before .before .put84 .last .0) ≡ length (c .before .before .before .before .before .before .before .before .before .before .before .before .before .before .before .put83 .last .0) = c .before .before .before .before .before .before .before .before .before .before .before .put84 .kept .0 in
     let k6 : length (c .before .before .before .before .before .before .before .put85 .last .0) ≡ length (c .before .before .before .before .before .before .before .before .before .before .before .put84 .last .0) = c .before .before .before .before .before .before .before .put85 .kept .0 in
     let k7 : length (c .before .before .before .put86 .last .0) ≡ length (c .before .before .before .before .before .before .before .put85 .last .0) = c .before .before .before .put86 .kept .0 in
-    let n = c .before .before .before .before .before .before .before .before .before .before .before .before .before .before .before .before .before .before .before .before .before .before .before .before .before .before .before .before .before .before .before .before .before .before .before .before .before .pre .0 in
+    let n = c .before .before .before .before .before .before .before .before .before .before .before .before .before .before .before .before .before .before .before .before .before .before .before .before .before .before .before .before .before .before .before .before .before .before .before .before .before .pre .long in
     omega arith
 
 same-length : tie.Need-same-length
@@ -150,7 +156,7 @@ returns c = let a = c .before .before .before .before .before .before .before .b
     let h = c .before .before .before .before .before .before .before .before .before .before .before .before .before .before .before .before .before .before .before .before .before .before .before .before .before .before .before .before .before .before .before .before .before .before .before .before .before .before .before .before .pre in
     let e = c .before .before .before .before .before .before .before .before .before .before .before .before .before .before .before .before .before .before .before .before .before .before .before .before .before .before .before .before .before .before .before .before .before .before .before .before .size .ensures .0 in
     row (a .s .now) (c .before .before .before .before .before .before .before .before .before .before .before .before .before .before .before .before .before .before .before .before .before .before .before .before .before .before .before .before .before .before .before .before .before .before .put-all .last .0) (c .before .before .before .before .before .before .before .before .before .before .before .before .before .before .before .before .before .before .before .before .before .before .before .before .before .before .before .before .before .before .put8 .last .0) (c .before .before .before .before .before .before .before .before .before .before .before .before .before .before .before .before .before .before .before .before .before .before .before .before .before .before .put82 .last .0) (c .before .before .before .before .before .before .before .before .before .before .before .before .before .before .before .before .before .before .before .before .before .before .put64 .last .0) (c .before .before .before .before .before .before .before .before .before .before .before .before .before .before .before .before .before .before .put83 .last .0) (c .before .before .before .before .before .before .before .before .before .before .before .before .before .before .put84 .last .0) (c .before .before .before .before .before .before .before .before .before .before .put85 .last .0) (c .before .before .before .before .before .before .put86 .last .0) (c .before .before .put87 .last .0) (a .id .now) (c .before .before .before .before .before .before .before .before .before .before .before .before .before .before .before .before .before .before .before .before .before .before .before .before .before .before .before .before .before .before .before .before .before .before .before .before .size .result)
-    (a .kind) (a .signer) (a .ballot) (a .previous) (a .count) (a .known) (h .0) (omega (arith, h .1 .0)) e (h .1 .1) (c .before .before .before .before .before .before .before .before .before .before .before .before .before .before .before .before .before .before .before .before .before .before .before .before .before .before .before .before .before .before .before .before .before .before .before .before .before .before .before .before .fits .ballot .fits)
+    (a .kind) (a .signer) (a .ballot) (a .previous) (a .count) (a .known) (h .long) (omega (arith, h .room, held-in (a .s .now))) e (h .id-bytes) (c .before .before .before .before .before .before .before .before .before .before .before .before .before .before .before .before .before .before .before .before .before .before .before .before .before .before .before .before .before .before .before .before .before .before .before .before .before .before .before .before .fits .ballot .fits)
     (c .before .before .before .before .before .before .before .before .before .before .before .before .before .before .before .before .before .before .before .before .before .before .before .before .before .before .before .before .before .before .before .before .before .before .put-all .ensures)
     (c .before .before .before .before .before .before .before .before .before .before .before .before .before .before .before .before .before .before .before .before .before .before .before .before .before .before .before .before .before .before .put8 .ensures)
     (c .before .before .before .before .before .before .before .before .before .before .before .before .before .before .before .before .before .before .before .before .before .before .before .before .before .before .put82 .ensures)

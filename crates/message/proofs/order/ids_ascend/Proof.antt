@@ -6,7 +6,8 @@ use lib.ListN.{length}
 use borrow.Author.Tests.{not-true, not-false}
 use Rattle.base.specs.Tests.{pick}
 use Rattle.base.specs.Bytes.{be, part}
-use Rattle.message.specs.Order.{before, ascending}
+use Rattle.message.specs.Layout.{idLen}
+use Rattle.message.specs.Order.{before, ascending, wordLen}
 use borrow.Author.Needs.{needs}
 use native.Mathlib.Omega.{arith}
 use Rattle.message.proofs.order.ids_ascend.Statement.{statement}
@@ -15,7 +16,7 @@ use Rattle.message.proofs.order.ids_ascend.Tie as tie
 -- lemmas
 
 -- one pair compared
-step : (s : List ℕ) (at left : ℕ) → 0 < left → ascending left s at ≡ pick (before (part 32 s at) (part 32 s (at + 32))) (ascending (left - 1) s (at + 32)) false
+step : (s : List ℕ) (at left : ℕ) → 0 < left → ascending left s at ≡ pick (before (part idLen s at) (part idLen s (at + idLen))) (ascending (left - 1) s (at + idLen)) false
 unfolding ascending
 step s at left h = let e : left ≡ suc (left - 1) = omega arith in ap (λ (n : ℕ). ascending n s at) e
 
@@ -23,7 +24,7 @@ step s at left h = let e : left ≡ suc (left - 1) = omega arith in ap (λ (n : 
 
 -- the ids so far ascend, so that what is left decides, and the first word of the id at hand was read
 abbrev Inv-loop : tie.InvT-loop
-Inv-loop s from n at₀ first₀ left₀ at first left = (at + 32 + 32 * left ≤ length s) × ((first ≡ be 8 s at) × (ascending n s from ≡ ascending left s at))
+Inv-loop s from n at₀ first₀ left₀ at first left = (at + idLen + idLen * left ≤ length s) × ((first ≡ be wordLen s at) × (ascending n s from ≡ ascending left s at))
 
 abbrev μ-loop : tie.MeasureT-loop
 μ-loop s from n at₀ first₀ left₀ at first left = left

@@ -9,7 +9,8 @@ use borrow.Author.Needs.{needs}
 use native.Mathlib.Omega.{arith}
 use Rattle.base.specs.Tests.{pick}
 use Rattle.base.specs.Bytes.{be, part, Octets}
-use Rattle.message.specs.Order.{before}
+use Rattle.message.specs.Layout.{idLen}
+use Rattle.message.specs.Order.{before, wordLen}
 use Rattle.message.proofs.Ascent.{before-number}
 use Rattle.message.proofs.order.words_before.Statement.{statement}
 use Rattle.message.proofs.order.words_before.Tie as tie
@@ -18,17 +19,17 @@ use Rattle.message.proofs.order.words_before.Tie as tie
 
 -- the comparison of what is left from i on
 abbrev rest : List ℕ → ℕ → ℕ → ℕ → Bool
-rest s a b i = before (part (32 - i) s (a + i)) (part (32 - i) s (b + i))
+rest s a b i = before (part (idLen - i) s (a + i)) (part (idLen - i) s (b + i))
 
 -- one word of each id compared
-step : (s : List ℕ) (a b i : ℕ) → Octets s → i + 8 ≤ 32 → a + 32 ≤ length s → b + 32 ≤ length s
-    → rest s a b i ≡ pick (eqb (be 8 s (a + i)) (be 8 s (b + i))) (rest s a b (i + 8)) (ltb (be 8 s (a + i)) (be 8 s (b + i)))
+step : (s : List ℕ) (a b i : ℕ) → Octets s → i + wordLen ≤ idLen → a + idLen ≤ length s → b + idLen ≤ length s
+    → rest s a b i ≡ pick (eqb (be wordLen s (a + i)) (be wordLen s (b + i))) (rest s a b (i + wordLen)) (ltb (be wordLen s (a + i)) (be wordLen s (b + i)))
 step s a b i o h ha hb =
-    let k : 32 - i ≡ 8 + (32 - (i + 8)) = omega arith in
-    let na : a + i + 8 ≡ a + (i + 8) = omega arith in
-    let nb : b + i + 8 ≡ b + (i + 8) = omega arith in
-    ap (λ (n : ℕ). before (part n s (a + i)) (part n s (b + i))) k ∙ before-number 8 (32 - (i + 8)) s (a + i) (b + i) o (omega arith) (omega arith)
-    ∙ ap₂ (λ (x y : ℕ). pick (eqb (be 8 s (a + i)) (be 8 s (b + i))) (before (part (32 - (i + 8)) s x) (part (32 - (i + 8)) s y)) (ltb (be 8 s (a + i)) (be 8 s (b + i)))) na nb
+    let k : idLen - i ≡ wordLen + (idLen - (i + wordLen)) = omega arith in
+    let na : a + i + wordLen ≡ a + (i + wordLen) = omega arith in
+    let nb : b + i + wordLen ≡ b + (i + wordLen) = omega arith in
+    ap (λ (n : ℕ). before (part n s (a + i)) (part n s (b + i))) k ∙ before-number wordLen (idLen - (i + wordLen)) s (a + i) (b + i) o (omega arith) (omega arith)
+    ∙ ap₂ (λ (x y : ℕ). pick (eqb (be wordLen s (a + i)) (be wordLen s (b + i))) (before (part (idLen - (i + wordLen)) s x) (part (idLen - (i + wordLen)) s y)) (ltb (be wordLen s (a + i)) (be wordLen s (b + i)))) na nb
 
 -- words v and w, which are the numbers x and y, decide where they differ
 differ : (x y v w : ℕ) (r : Bool) → v ≡ x → w ≡ y → (v ≡ w → ⊥) → ltb v w ≡ pick (eqb x y) r (ltb x y)
@@ -42,26 +43,26 @@ agree x y v w r ex ey e = simp (eq-eqb x y (sym ex ∙ e ∙ ey))
 
 -- whole words were compared, and what is left decides
 abbrev Inv-loop : tie.InvT-loop
-Inv-loop s a x b y i₀ i = (i ≤ 32) × ((i % 8 ≡ 0) × (before (part 32 s a) (part 32 s b) ≡ rest s a b i))
+Inv-loop s a x b y i₀ i = (i ≤ idLen) × ((i % wordLen ≡ 0) × (before (part idLen s a) (part idLen s b) ≡ rest s a b i))
 
 abbrev μ-loop : tie.MeasureT-loop
-μ-loop s a x b y i₀ i = 32 - i
+μ-loop s a x b y i₀ i = idLen - i
 
 returns : tie.Need-returns Inv-loop μ-loop
 returns c =
     let g = c .before .before .args in
     let s = g .s .now in
     let p = c .before .before .pre in
-    let words = before-number 8 24 s (g .a) (g .b) (λ j. omega (arith, c .before .shared-slice-known .given j)) (omega arith) (omega arith) in
-    differ (be 8 s (g .a)) (be 8 s (g .b)) (g .x) (g .y) (rest s (g .a) (g .b) 8) (p .1 .1 .0) (p .1 .1 .1) (c .if1 .taken) ∙ sym words
+    let words = before-number wordLen (idLen - wordLen) s (g .a) (g .b) (λ j. omega (arith, c .before .shared-slice-known .given j)) (omega arith) (omega arith) in
+    differ (be wordLen s (g .a)) (be wordLen s (g .b)) (g .x) (g .y) (rest s (g .a) (g .b) wordLen) (p .firstWord) (p .secondWord) (c .if1 .taken) ∙ sym words
 
 loop-holds : tie.Need-loop-holds Inv-loop μ-loop
 loop-holds c =
     let g = c .before .before .args in
     let s = g .s .now in
     let p = c .before .before .pre in
-    let words = before-number 8 24 s (g .a) (g .b) (λ j. omega (arith, c .before .shared-slice-known .given j)) (omega arith) (omega arith) in
-    (omega arith, (refl, words ∙ agree (be 8 s (g .a)) (be 8 s (g .b)) (g .x) (g .y) (rest s (g .a) (g .b) 8) (p .1 .1 .0) (p .1 .1 .1) (c .if1 .left)))
+    let words = before-number wordLen (idLen - wordLen) s (g .a) (g .b) (λ j. omega (arith, c .before .shared-slice-known .given j)) (omega arith) (omega arith) in
+    (omega arith, (refl, words ∙ agree (be wordLen s (g .a)) (be wordLen s (g .b)) (g .x) (g .y) (rest s (g .a) (g .b) wordLen) (p .firstWord) (p .secondWord) (c .if1 .left)))
 
 add-read64 : tie.Need-add-read64 Inv-loop μ-loop
 add-read64 c = search needs
@@ -81,7 +82,7 @@ returns-2 c =
     let s = g .s .now in
     let i = c .before .before .before .before .loop .i in
     let words = c .before .before .before .before .loop .inv .1 .1 ∙ step s (g .a) (g .b) i (λ j. omega (arith, c .before .before .before .before .before .before .shared-slice-known .given j)) (omega arith) (omega arith) (omega arith) in
-    differ (be 8 s (g .a + i)) (be 8 s (g .b + i)) (c .before .before .read64 .result) (c .before .read642 .result) (rest s (g .a) (g .b) (i + 8)) (c .before .before .read64 .ensures) (c .before .read642 .ensures) (c .if2 .taken) ∙ sym words
+    differ (be wordLen s (g .a + i)) (be wordLen s (g .b + i)) (c .before .before .read64 .result) (c .before .read642 .result) (rest s (g .a) (g .b) (i + wordLen)) (c .before .before .read64 .ensures) (c .before .read642 .ensures) (c .if2 .taken) ∙ sym words
 
 add-i : tie.Need-add-i Inv-loop μ-loop
 add-i c = search needs
@@ -95,14 +96,14 @@ loop-again c =
     let s = g .s .now in
     let i = c .before .before .before .before .loop .i in
     let words = c .before .before .before .before .loop .inv .1 .1 ∙ step s (g .a) (g .b) i (λ j. omega (arith, c .before .before .before .before .before .before .shared-slice-known .given j)) (omega arith) (omega arith) (omega arith) in
-    (omega arith, (omega arith, words ∙ agree (be 8 s (g .a + i)) (be 8 s (g .b + i)) (c .before .before .read64 .result) (c .before .read642 .result) (rest s (g .a) (g .b) (i + 8)) (c .before .before .read64 .ensures) (c .before .read642 .ensures) (c .if2 .left)))
+    (omega arith, (omega arith, words ∙ agree (be wordLen s (g .a + i)) (be wordLen s (g .b + i)) (c .before .before .read64 .result) (c .before .read642 .result) (rest s (g .a) (g .b) (i + wordLen)) (c .before .before .read64 .ensures) (c .before .read642 .ensures) (c .if2 .left)))
 
 returns-3 : tie.Need-returns-3 Inv-loop μ-loop
 unfolding before
 returns-3 c =
     let g = c .before .before .before .before .args in
     let i = c .before .loop .i in
-    let e : 32 - i ≡ 0 = omega arith in
+    let e : idLen - i ≡ 0 = omega arith in
     sym (c .before .loop .inv .1 .1 ∙ ap (λ (k : ℕ). before (part k (g .s .now) (g .a + i)) (part k (g .s .now) (g .b + i))) e)
 
 pub words-before-spec : {M : Type 1} → statement M

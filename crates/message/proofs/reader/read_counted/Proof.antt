@@ -5,7 +5,7 @@ use lib.ListN.{length, getD}
 use borrow.Author.Tests.{le-ltb, lt-ltb, lt-leb, le-leb, eq-eqb, ne-eqb, not-true, not-false}
 use Rattle.message.specs.declared.Reading.{Reading}
 use Rattle.message.specs.declared.Reading.the-variants.{OfAcceptor}
-use Rattle.message.specs.Layout.{acceptorLen, referencesAt}
+use Rattle.message.specs.Layout.{signerAt, mostReferences, acceptorLen, referencesAt}
 use Rattle.message.specs.Order.{ascending}
 use Rattle.message.specs.Reader.{acceptorIn}
 use Rattle.message.proofs.Checks.{to-acceptor}
@@ -18,7 +18,7 @@ returns : tie.Need-returns
 returns c = simp (le-ltb 0 (c .before .before .args .n) (omega arith))
 
 returns-2 : tie.Need-returns-2
-returns-2 c = simp (lt-ltb 0 (c .before .before .before .args .n) (omega arith), lt-leb (c .before .before .before .args .n) 128 (omega arith))
+returns-2 c = simp (lt-ltb 0 (c .before .before .before .args .n) (omega arith), lt-leb (c .before .before .before .args .n) mostReferences (omega arith))
 
 mul-if3 : tie.Need-mul-if3
 mul-if3 c = search needs
@@ -31,7 +31,7 @@ returns-3 c =
     let a = c .before .before .before .before .args in
     let n = a .n in
     let s = a .s .now in
-    simp (lt-ltb 0 n (omega arith), le-leb n 128 (omega arith), ne-eqb (length s) (acceptorLen (a .previous) n) (λ q. c .if3 .taken (omega arith)))
+    simp (lt-ltb 0 n (omega arith), le-leb n mostReferences (omega arith), ne-eqb (length s) (acceptorLen (a .previous) n) (λ q. c .if3 .taken (omega arith)))
 
 sub-ids-ascend : tie.Need-sub-ids-ascend
 sub-ids-ascend c = search needs
@@ -45,9 +45,9 @@ returns-4 c =
     let n = a .n in
     let s = a .s .now in
     let o : ascending (n - 1) s (referencesAt (a .previous)) ≡ false =
-    sym (c .before .ids-ascend .ensures ∙ ap (ascending (n - 1) s) (c .before .before .before .before .before .before .pre .1 .0)) ∙ not-true (c .before .ids-ascend .result) (c .if4 .taken)
+    sym (c .before .ids-ascend .ensures ∙ ap (ascending (n - 1) s) (c .before .before .before .before .before .before .pre .begins)) ∙ not-true (c .before .ids-ascend .result) (c .if4 .taken)
     in
-    simp (lt-ltb 0 n (omega arith), le-leb n 128 (omega arith), eq-eqb (length s) (acceptorLen (a .previous) n) (omega arith), o)
+    simp (lt-ltb 0 n (omega arith), le-leb n mostReferences (omega arith), eq-eqb (length s) (acceptorLen (a .previous) n) (omega arith), o)
 
 field16-requires : tie.Need-field16-requires
 field16-requires c κs = search needs
@@ -64,10 +64,10 @@ returns-5 c =
     let n = a .n in
     let s = a .s .now in
     let o : ascending (n - 1) s (referencesAt (a .previous)) ≡ true =
-    sym (c .before .before .before .before .ids-ascend .ensures ∙ ap (ascending (n - 1) s) (c .before .before .before .before .before .before .before .before .before .pre .1 .0)) ∙ not-false (c .before .before .before .before .ids-ascend .result) (c .before .before .before .if4 .left)
+    sym (c .before .before .before .before .ids-ascend .ensures ∙ ap (ascending (n - 1) s) (c .before .before .before .before .before .before .before .before .before .pre .begins)) ∙ not-false (c .before .before .before .before .ids-ascend .result) (c .before .before .before .if4 .left)
     in
-    let e : _≡_ {A = Reading} (OfAcceptor (record { house = c .before .before .field16 .result; bay = c .before .field162 .result; signer = getD s 8 0; previous = a .previous; count = n })) (OfAcceptor (acceptorIn s (a .previous) n)) =
-    λ i. OfAcceptor (record { house = c .before .before .field16 .ensures i; bay = c .before .field162 .ensures i; signer = getD s 8 0; previous = a .previous; count = n })
+    let e : _≡_ {A = Reading} (OfAcceptor (record { house = c .before .before .field16 .result; bay = c .before .field162 .result; signer = getD s signerAt 0; previous = a .previous; count = n })) (OfAcceptor (acceptorIn s (a .previous) n)) =
+    λ i. OfAcceptor (record { house = c .before .before .field16 .ensures i; bay = c .before .field162 .ensures i; signer = getD s signerAt 0; previous = a .previous; count = n })
     in
     e ∙ sym (to-acceptor s (a .previous) n (omega arith) (omega arith) (omega arith) o)
 

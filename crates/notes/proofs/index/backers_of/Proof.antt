@@ -2,8 +2,10 @@ use mathlib.Core.Path.{sym, subst}
 use Prim.Native.Nat.{ℕ}
 use lib.ListN.{getD}
 use Rattle.places.specs.PlaceSets.{inSet}
-use Rattle.notes.specs.Notes.{Filed}
-use Rattle.notes.proofs.Walking.{both}
+use Rattle.places.proofs.Membership.{in-both}
+use Rattle.notes.specs.Layout.{wordNotes}
+use Rattle.notes.specs.Index.{Filed}
+use Rattle.notes.specs.Index.{formKey}
 use borrow.Author.Needs.{needs}
 use Rattle.notes.proofs.index.backers_of.Statement.{statement}
 use Rattle.notes.proofs.index.backers_of.Tie as tie
@@ -18,7 +20,14 @@ within-requires-2 : tie.Need-within-requires-2
 within-requires-2 c κs = search needs
 
 returns : tie.Need-returns
-returns c = let a = c .before .before .before .before .before .args in let k = c .before .ballot-key in let ones = c .before .before .within in λ q h x y z. both (inSet (ones .result .low) (ones .result .high) q) (inSet (getD (a .key-low .now) (k .result) 0) (getD (a .key-high .now) (k .result) 0) q) (c .within2 .ensures q h) (both (inSet (a .low) (a .high) q) (inSet (getD (a .key-low .now) 65 0) (getD (a .key-high .now) 65 0) q) (ones .ensures q h) x y) (subst (λ (i : ℕ). Filed (a .key-low .now) (a .key-high .now) i q) (sym (k .ensures)) z)
+returns c = let a = c .before .before .before .before .args in
+    let x = wordNotes (a .words .now) in
+    let k = c .before .ballot-key in
+    let ones = c .before .before .within in
+    λ q h s t u. in-both (inSet (ones .result .low) (ones .result .high) q) (inSet (getD (x .keylow) (k .result) 0) (getD (x .keyhigh) (k .result) 0) q) (c .within2 .ensures q h)
+    (in-both (inSet (a .set .low) (a .set .high) q) (inSet (getD (x .keylow) (formKey 1) 0) (getD (x .keyhigh) (formKey 1) 0) q) (ones .ensures q h) s t)
+    (subst (λ (i : ℕ). Filed (x .keylow) (x .keyhigh) i q) (sym (k .ensures)) u)
 
 pub backers-of-spec : {M : Type 1} → statement M
-backers-of-spec = tie.close (tie.spec within-requires ballot-key-requires within-requires-2 returns)
+backers-of-spec =
+    tie.close (tie.spec within-requires ballot-key-requires within-requires-2 returns)

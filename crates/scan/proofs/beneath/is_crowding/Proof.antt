@@ -1,6 +1,6 @@
 use mathlib.Core.Bool.{not, _&&_}
 use lib.Dec.{eqb}
-use lib.ListN.{getD}
+use Rattle.message.specs.Layout.{proposalKind}
 use borrow.Author.Needs.{needs}
 use Rattle.scan.proofs.beneath.is_crowding.Statement.{statement}
 use Rattle.scan.proofs.beneath.is_crowding.Tie as tie
@@ -8,30 +8,22 @@ use Rattle.scan.proofs.beneath.is_crowding.Tie as tie
 has-place-requires : tie.Need-has-place-requires
 has-place-requires c κs = search needs
 
-shared-slice-read-result : tie.Need-shared-slice-read-result
-shared-slice-read-result c = search needs
+name-at-requires : tie.Need-name-at-requires
+name-at-requires c κs = search needs
 
-mul-result : tie.Need-mul-result
-mul-result c = search needs
+top-at-requires : tie.Need-top-at-requires
+top-at-requires c κs = search needs
 
-shared-slice-read-result-2 : tie.Need-shared-slice-read-result-2
-shared-slice-read-result-2 c = search needs
-
-shared-slice-read-result-3 : tie.Need-shared-slice-read-result-3
-shared-slice-read-result-3 c = search needs
+kind-at-requires : tie.Need-kind-at-requires
+kind-at-requires c κs = search needs
 
 returns : tie.Need-returns
-returns c =
-    let a = c .before .before .before .before .before .before .before .args in
-    λ e. c .before .before .before .has-place .ensures e && not (eqb (getD (a .names .now) (a .j) 0) (a .name)) && eqb (getD (a .tops .now) (a .j) 0) (a .ballot) && not (eqb (getD (a .kinds .now) (a .j) 0) 1)
+returns c = let a = c .before .before .before .before .before .before .before .args in
+    λ e.
+    c .before .before .before .has-place .ensures e && not (eqb (c .before .before .name-at .ensures e) (a .name)) && eqb (c .before .top-at .ensures e) (a .ballot)
+    && not (eqb (c .kind-at .ensures e) proposalKind)
 
 pub is-crowding-spec : {M : Type 1} → statement M
 is-crowding-spec =
     tie.close
-    (tie.spec
-    has-place-requires
-    shared-slice-read-result
-    mul-result
-    shared-slice-read-result-2
-    shared-slice-read-result-3
-    returns)
+    (tie.spec has-place-requires name-at-requires top-at-requires kind-at-requires returns)

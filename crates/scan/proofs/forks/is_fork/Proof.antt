@@ -1,43 +1,47 @@
+use mathlib.Core.Path.{ap, _∙_}
 use mathlib.Core.Bool.{not, _&&_}
+use Prim.Native.Nat.{ℕ}
 use lib.Dec.{eqb}
 use lib.ListN.{getD}
+use Rattle.message.specs.Layout.{proposalKind}
+use Rattle.notes.specs.Layout.{byteNotes}
 use borrow.Author.Needs.{needs}
 use Rattle.scan.proofs.forks.is_fork.Statement.{statement}
 use Rattle.scan.proofs.forks.is_fork.Tie as tie
 
-shared-slice-read-size : tie.Need-shared-slice-read-size
-shared-slice-read-size c = search needs
+previous-at-requires : tie.Need-previous-at-requires
+previous-at-requires c κs = search needs
 
 size-requires : tie.Need-size-requires
 size-requires c κs = search needs
 
-shared-slice-read-result : tie.Need-shared-slice-read-result
-shared-slice-read-result c = search needs
+kind-at-requires : tie.Need-kind-at-requires
+kind-at-requires c κs = search needs
 
-shared-slice-read-result-2 : tie.Need-shared-slice-read-result-2
-shared-slice-read-result-2 c = search needs
+signer-at-requires : tie.Need-signer-at-requires
+signer-at-requires c κs = search needs
 
-shared-slice-read-result-3 : tie.Need-shared-slice-read-result-3
-shared-slice-read-result-3 c = search needs
+name-at-requires : tie.Need-name-at-requires
+name-at-requires c κs = search needs
 
-shared-slice-read-result-4 : tie.Need-shared-slice-read-result-4
-shared-slice-read-result-4 c = search needs
+name-at-requires-2 : tie.Need-name-at-requires-2
+name-at-requires-2 c κs = search needs
 
 returns : tie.Need-returns
-returns c =
-    let a = c .before .before .before .before .before .before .before .before .before .before .args in
+returns c = let a = c .before .before .before .before .before .before .before .before .args in
+    let link = c .name-at2 .ensures ∙ ap (λ (k : ℕ). getD (byteNotes (a .octets .now) .names) k 0) (c .before .before .before .before .size .ensures .0 ∙ c .before .before .before .before .before .previous-at .ensures) in
     λ e.
-    not (eqb (getD (a .kinds .now) (a .j) 0) 1) && eqb (getD (a .signers .now) (a .j) 0) (a .signer) && not (eqb (getD (a .names .now) (a .j) 0) (a .name))
-    && eqb (getD (a .names .now) (c .before .before .before .before .size .ensures .0 e) 0) (a .link)
+    not (eqb (c .before .before .before .kind-at .ensures e) proposalKind) && eqb (c .before .before .signer-at .ensures e) (a .signer) && not (eqb (c .before .name-at .ensures e) (a .name))
+    && eqb (link e) (a .link)
 
 pub is-fork-spec : {M : Type 1} → statement M
 is-fork-spec =
     tie.close
     (tie.spec
-    shared-slice-read-size
+    previous-at-requires
     size-requires
-    shared-slice-read-result
-    shared-slice-read-result-2
-    shared-slice-read-result-3
-    shared-slice-read-result-4
+    kind-at-requires
+    signer-at-requires
+    name-at-requires
+    name-at-requires-2
     returns)

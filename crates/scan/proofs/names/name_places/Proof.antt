@@ -1,35 +1,44 @@
-use mathlib.Core.Path.{_≡_, sym, subst, _∙_}
-use Prim.Native.Nat.{ℕ, _+_, _-_, _≤_}
-use native.Mathlib.Omega.{arith}
-use lib.ListN.{length, length-set}
-use lib.Seq.{getD-set-same}
-use Rattle.base.specs.Bytes.{part}
-use Rattle.scan.specs.Arrays.{Named, idKeys, IdsIndexed}
-use Rattle.scan.proofs.Naming.{named-more}
+use mathlib.Core.Path.{_≡_, ap, subst, _∙_}
+use Prim.Native.Nat.{ℕ, _-_, _≤_}
+use Rattle.round.specs.Limits.{noPlace}
+use Rattle.roundbytes.specs.Layout.{roundIn}
+use Rattle.notes.specs.Layout.{wordNotes, byteNotes, Lent}
+use Rattle.notes.specs.Writing.{withName}
+use Rattle.notes.proofs.Fields.{byte-rooms}
+use Rattle.scan.specs.Arrays.{NamedAll}
+use Rattle.scan.proofs.Naming.{all-begun, all-more, all-since}
 use borrow.Author.Needs.{needs}
+use native.Mathlib.Omega.{arith}
 use Rattle.scan.proofs.names.name_places.Statement.{statement}
 use Rattle.scan.proofs.names.name_places.Tie as tie
 
 abbrev Inv-loop : tie.InvT-loop
-Inv-loop ids n names₀ keys₀ i₀ names keys i = (i ≤ n) × ((length names ≡ 256) × ((length keys ≡ idKeys + idKeys) × (Named ids i names × IdsIndexed ids i (part idKeys keys 0) (part idKeys keys idKeys))))
+Inv-loop s words₀ octets₀ n i₀ words octets i = (i ≤ n) × (Lent words octets × NamedAll (roundIn s) i (wordNotes words₀) (wordNotes words) (byteNotes octets₀) (byteNotes octets))
 
 abbrev μ-loop : tie.MeasureT-loop
-μ-loop ids n names₀ keys₀ i₀ names keys i = n - i
+μ-loop s words₀ octets₀ n i₀ words octets i = n - i
 
-slice-write-names : tie.Need-slice-write-names Inv-loop μ-loop
-slice-write-names c = search needs
+size-requires : tie.Need-size-requires Inv-loop μ-loop
+size-requires c κs = search needs
+
+put-name-requires : tie.Need-put-name-requires Inv-loop μ-loop
+put-name-requires c κs = search needs
 
 loop-holds : tie.Need-loop-holds Inv-loop μ-loop
-loop-holds c = let a = c .before .before .before .args in let pre = c .before .before .before .pre in (
-  omega arith,
-  (
-    simp length-set (pre .1 .1 .0),
-    (pre .1 .1 .1, (record { none = getD-set-same (a .names .now) 255 255 0 (omega arith); each = λ i h. absurd (omega arith) }, λ j h. absurd (omega arith))),
-  ),
-)
+loop-holds c = let a = c .before .before .before .before .before .before .before .before .args in
+    let room = c .before .before .before .before .before .before .before .before .pre .0 .lent in
+    let put = c .before .before .put-name in
+    let y = byteNotes (a .octets .now) in (
+      omega arith,
+      (
+        record { wordRoom = room .wordRoom; octetRoom = put .kept .0 ∙ room .octetRoom },
+        all-begun (roundIn (a .s .now)) (wordNotes (a .words .now)) y (byteNotes (put .last .0)) (byte-rooms (a .octets .now) (room .octetRoom) .names)
+            (put .ensures ∙ ap (λ (k : ℕ). withName y k noPlace) (c .before .before .before .size .ensures .0)),
+      ),
+    )
 
 name-place-requires : tie.Need-name-place-requires Inv-loop μ-loop
-name-place-requires c κs = search needs
+name-place-requires c κs = let pre = c .before .before .before .before .before .before .before .before .before .before .before .before .pre in let l = c .before .before .before .loop in let go = c .before .before .loop-test .taken in let few = pre .1 in (record { long = pre .0 .long; lent = l .inv .1 .0 }, (omega arith, l .inv .1 .1 .indexed))
 
 add-i : tie.Need-add-i Inv-loop μ-loop
 add-i c = search needs
@@ -38,19 +47,21 @@ loop-less : tie.Need-loop-less Inv-loop μ-loop
 loop-less c = search needs
 
 loop-again : tie.Need-loop-again Inv-loop μ-loop
-loop-again c = let a = c .before .before .before .before .before .before .before .before .before .before .before .before .args in let l = c .before .before .before .before .before .before .before .before .loop in let r = c .before .before .before .before .name-place in let few = c .before .before .before .before .before .before .before .before .before .before .before .before .pre .0 in let go = c .before .before .before .before .before .before .before .loop-test .taken in (
-  omega arith,
-  (
-    r .kept .1 .1 .0 ∙ l .inv .1 .0,
-    (
-      r .kept .1 .1 .1 .0 ∙ l .inv .1 .1 .0,
+loop-again c = let a = c .before .before .before .before .before .before .before .before .before .before .before .before .before .before .before .before .before .args in
+    let few = c .before .before .before .before .before .before .before .before .before .before .before .before .before .before .before .before .before .pre .1 in
+    let put = c .before .before .before .before .before .before .before .before .before .before .before .put-name in
+    let l = c .before .before .before .before .before .before .before .before .loop in
+    let go = c .before .before .before .before .before .before .before .loop-test .taken in
+    let more = c .before .before .before .before .name-place in
+    let room = l .inv .1 .0 in (
+      omega arith,
       (
-        subst (Named (a .ids .now) (l .i + 1)) (sym (r .ensures .0)) (named-more (a .ids .now) (l .i) (l .names) (r .result) (omega arith) (l .inv .1 .0) (l .inv .1 .1 .1 .0) (r .ensures .1 .0)),
-        r .ensures .1 .1,
+        record { wordRoom = more .kept .1 .0 ∙ room .wordRoom; octetRoom = more .kept .1 .1 .0 ∙ room .octetRoom },
+        all-more (roundIn (a .s .now)) (l .i) (more .result) (wordNotes (a .words .now)) (wordNotes (l .words)) (wordNotes (more .last .1 .0))
+            (byteNotes (put .last .0)) (byteNotes (l .octets)) (byteNotes (more .last .1 .1 .0)) (omega arith) (byte-rooms (l .octets) (room .octetRoom) .names)
+            (l .inv .1 .1) (more .ensures),
       ),
-    ),
-  ),
-)
+    )
 
 same-length : tie.Need-same-length Inv-loop μ-loop
 same-length c = search needs
@@ -59,7 +70,17 @@ same-length-2 : tie.Need-same-length-2 Inv-loop μ-loop
 same-length-2 c = search needs
 
 returns : tie.Need-returns Inv-loop μ-loop
-returns c = let a = c .before .before .before .before .before .args in let l = c .before .loop in let e : l .i ≡ a .n = omega arith in (subst (λ (k : ℕ). Named (a .ids .now) k (l .names)) e (l .inv .1 .1 .1 .0), subst (λ (k : ℕ). IdsIndexed (a .ids .now) k (part idKeys (l .keys) 0) (part idKeys (l .keys) idKeys)) e (l .inv .1 .1 .1 .1))
+returns c = let a = c .before .before .before .before .before .before .before .before .before .before .args in
+    let put = c .before .before .before .before .put-name in
+    let l = c .before .loop in
+    let e : l .i ≡ a .n = omega arith in
+    let x = wordNotes (a .words .now) in
+    let x′ = wordNotes (l .words) in
+    let y = byteNotes (a .octets .now) in
+    let y′ = byteNotes (put .last .0) in
+    let y″ = byteNotes (l .octets) in
+    all-since (roundIn (a .s .now)) (a .n) (c .before .before .before .before .before .size .result) noPlace x x′ y y′ y″ (put .ensures)
+    (subst (λ (k : ℕ). NamedAll (roundIn (a .s .now)) k x x′ y′ y″) e (l .inv .1 .1))
 
 pub name-places-spec : {M : Type 1} → statement M
 name-places-spec =
@@ -67,7 +88,8 @@ name-places-spec =
     (tie.spec
     Inv-loop
     μ-loop
-    slice-write-names
+    size-requires
+    put-name-requires
     loop-holds
     name-place-requires
     add-i

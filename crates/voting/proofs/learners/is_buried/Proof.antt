@@ -19,7 +19,7 @@ value-requires-4 c κs = search needs
 returns : tie.Need-returns
 returns c =
     let a = c .before .before .before .before .args in
-    λ e. (ltb (a .x) (a .best) && not (eqb (c .before .before .before .value .ensures e) (c .before .before .value2 .ensures e))) || (ltb (a .x) (a .other) && not (eqb (c .before .value3 .ensures e) (c .value4 .ensures e)))
+    λ e. (ltb (a .x) (a .p .best) && not (eqb (c .before .before .before .value .ensures e) (c .before .before .value2 .ensures e))) || (ltb (a .x) (a .p .other) && not (eqb (c .before .value3 .ensures e) (c .value4 .ensures e)))
 
 pub is-buried-spec : {M : Type 1} → statement M
 is-buried-spec =

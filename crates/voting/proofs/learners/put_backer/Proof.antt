@@ -11,10 +11,11 @@ use borrow.Author.Needs.{needs}
 use native.Mathlib.Omega.{arith}
 use Rattle.voting.proofs.learners.put_backer.Statement.{statement}
 use Rattle.voting.proofs.learners.put_backer.Tie as tie
+use Rattle.graph.specs.Limits.{maxLearners, maskBits}
 
 -- the sets of the learners below a have the acceptor where they shall, and the others are as they were
 abbrev Inv-loop : tie.InvT-loop
-Inv-loop sets₀ k to p a₀ sets a = (a ≤ k) × ((length sets ≡ 8) × (((b : ℕ) → b < a → (q : ℕ) → q < 32 → has (getD sets b 0) q ≡ ((has to b && eqb p q) || has (getD sets₀ b 0) q)) × ((b : ℕ) → a ≤ b → getD sets b 0 ≡ getD sets₀ b 0)))
+Inv-loop sets₀ k to p a₀ sets a = (a ≤ k) × ((length sets ≡ maxLearners) × (((b : ℕ) → b < a → (q : ℕ) → q < maskBits → has (getD sets b 0) q ≡ ((has to b && eqb p q) || has (getD sets₀ b 0) q)) × ((b : ℕ) → a ≤ b → getD sets b 0 ≡ getD sets₀ b 0)))
 
 abbrev μ-loop : tie.MeasureT-loop
 μ-loop sets₀ k to p a₀ sets a = k - a
@@ -55,7 +56,7 @@ loop-again c = let a = c .before .before .before .before .before .before .before
   (
     length-set (l .sets) (l .a) x ∙ size,
     (
-      each-more (λ b y. (q : ℕ) → q < 32 → has y q ≡ ((has (a .to) b && eqb (a .p) q) || has (getD (a .sets .now) b 0) q)) (l .sets) (l .a) x (omega arith) (l .inv .1 .1 .0)
+      each-more (λ b y. (q : ℕ) → q < maskBits → has y q ≡ ((has (a .to) b && eqb (a .p) q) || has (getD (a .sets .now) b 0) q)) (l .sets) (l .a) x (omega arith) (l .inv .1 .1 .0)
           (λ q h. c .with-acceptor .ensures q h ∙ ap₂ (λ (o : Bool) (y : ℕ). (o && eqb (a .p) q) || has y q) (c .before .before .has-learner .ensures) (l .inv .1 .1 .1 (l .a) (omega arith))),
       λ b h. getD-set-other (l .sets) (l .a) b x 0 (λ e. omega arith) ∙ l .inv .1 .1 .1 b (omega arith),
     ),

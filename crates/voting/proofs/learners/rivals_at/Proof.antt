@@ -1,10 +1,12 @@
-use mathlib.Core.Path.{_≡_, refl, sym, ap₂, _∙_}
+use mathlib.Core.Path.{_≡_, refl, sym, ap, ap₂, _∙_}
 use mathlib.Core.Bool.{Bool, true, false, not, _&&_, _||_}
 use Prim.Native.Nat.{ℕ}
 use lib.Dec.{eqb}
 use lib.ListN.{getD}
 use Rattle.base.specs.Sets.{has}
 use Rattle.base.specs.Ballots.{valueOf}
+use Rattle.roundbytes.specs.Layout.{roundIn}
+use Rattle.notes.specs.Layout.{wordNotes, byteNotes}
 use Rattle.places.specs.PlaceSets.{inSet}
 use Rattle.places.proofs.Membership.{has-zero, other}
 use borrow.Author.Needs.{needs}
@@ -33,47 +35,70 @@ stands true true h false w d e = absurd (other refl d)
 stands true true true true w d e = e
 stands true true false true w d e = refl
 
-shared-slice-read-if1 : tie.Need-shared-slice-read-if1
-shared-slice-read-if1 c = search needs
+form-at-requires : tie.Need-form-at-requires
+form-at-requires c κs = search needs
 
-shared-slice-read-if1-2 : tie.Need-shared-slice-read-if1-2
-shared-slice-read-if1-2 c = search needs
+signer-at-requires : tie.Need-signer-at-requires
+signer-at-requires c κs = search needs
 
 returns : tie.Need-returns
-returns c = let a = c .before .before .before .before .before .before .before .args in λ b. has-zero b ∙ sym (falls-first (inSet (a .low) (a .high) (a .j)) (eqb (getD (a .forms .now) (a .j) 0) 2) (has (getD (a .learners .now) (a .j) 0) b) (eqb (getD (a .signers .now) (a .j) 0) (a .signer)) (not (eqb (valueOf (getD (a .tops .now) (a .j) 0)) (a .v))) (c .if1 .taken))
+returns c =
+    let a = c .before .before .before .before .before .before .args in
+    let r = roundIn (a .s .now) in
+    let x = wordNotes (a .words .now) in
+    let y = byteNotes (a .octets .now) in
+    let inside = inSet (a .set .low) (a .set .high) (a .j) in
+    let form = eqb (getD (y .forms) (a .j) 0) 2 in
+    let signed = eqb (getD (r .signers) (a .j) 0) (a .signer) in
+    let differs = not (eqb (valueOf (getD (x .tops) (a .j) 0)) (a .v)) in
+    λ b. has-zero b ∙ sym (falls-first inside form (has (getD (y .learners) (a .j) 0) b) signed differs (sym (ap₂ (λ (f g : ℕ). not (eqb f 2) || not (eqb g (a .signer))) (c .before .before .form-at .ensures) (c .before .signer-at .ensures)) ∙ c .if1 .taken))
 
 has-place-requires : tie.Need-has-place-requires
 has-place-requires c κs = search needs
 
-mul-value : tie.Need-mul-value
-mul-value c = search needs
-
-shared-slice-read-value : tie.Need-shared-slice-read-value
-shared-slice-read-value c = search needs
+top-at-requires : tie.Need-top-at-requires
+top-at-requires c κs = search needs
 
 value-requires : tie.Need-value-requires
 value-requires c κs = search needs
 
-shared-slice-read-result : tie.Need-shared-slice-read-result
-shared-slice-read-result c = search needs
+learners-at-requires : tie.Need-learners-at-requires
+learners-at-requires c κs = search needs
 
 returns-2 : tie.Need-returns-2
-returns-2 c = let a = c .before .before .before .before .before .before .before .before .before .before .before .before .args in λ b. sym (stands (inSet (a .low) (a .high) (a .j)) (eqb (getD (a .forms .now) (a .j) 0) 2) (has (getD (a .learners .now) (a .j) 0) b) (eqb (getD (a .signers .now) (a .j) 0) (a .signer)) (not (eqb (valueOf (getD (a .tops .now) (a .j) 0)) (a .v))) (c .before .before .before .before .before .if1 .left) (sym (ap₂ (λ (x : Bool) (y : ℕ). x && not (eqb y (a .v))) (c .before .before .before .before .has-place .ensures) (c .before .before .value .ensures)) ∙ c .before .if2 .taken))
+returns-2 c =
+    let a = c .before .before .before .before .before .before .before .before .before .before .before .args in
+    let r = roundIn (a .s .now) in
+    let x = wordNotes (a .words .now) in
+    let y = byteNotes (a .octets .now) in
+    let inside = inSet (a .set .low) (a .set .high) (a .j) in
+    let form = eqb (getD (y .forms) (a .j) 0) 2 in
+    let signed = eqb (getD (r .signers) (a .j) 0) (a .signer) in
+    let differs = not (eqb (valueOf (getD (x .tops) (a .j) 0)) (a .v)) in
+    λ b. ap (λ (m : ℕ). has m b) (c .learners-at .ensures) ∙ sym (stands inside form (has (getD (y .learners) (a .j) 0) b) signed differs (sym (ap₂ (λ (f g : ℕ). not (eqb f 2) || not (eqb g (a .signer))) (c .before .before .before .before .before .before .before .form-at .ensures) (c .before .before .before .before .before .before .signer-at .ensures)) ∙ c .before .before .before .before .before .if1 .left) (sym (ap₂ (λ (t : Bool) (u : ℕ). t && not (eqb u (a .v))) (c .before .before .before .before .has-place .ensures) (c .before .before .value .ensures ∙ ap valueOf (c .before .before .before .top-at .ensures))) ∙ c .before .if2 .taken))
 
 returns-3 : tie.Need-returns-3
-returns-3 c = let a = c .before .before .before .before .before .before .before .before .before .before .before .args in λ b. has-zero b ∙ sym (falls-then (inSet (a .low) (a .high) (a .j)) (eqb (getD (a .forms .now) (a .j) 0) 2) (has (getD (a .learners .now) (a .j) 0) b) (eqb (getD (a .signers .now) (a .j) 0) (a .signer)) (not (eqb (valueOf (getD (a .tops .now) (a .j) 0)) (a .v))) (sym (ap₂ (λ (x : Bool) (y : ℕ). x && not (eqb y (a .v))) (c .before .before .before .has-place .ensures) (c .before .value .ensures)) ∙ c .if2 .left))
+returns-3 c =
+    let a = c .before .before .before .before .before .before .before .before .before .before .args in
+    let r = roundIn (a .s .now) in
+    let x = wordNotes (a .words .now) in
+    let y = byteNotes (a .octets .now) in
+    let inside = inSet (a .set .low) (a .set .high) (a .j) in
+    let form = eqb (getD (y .forms) (a .j) 0) 2 in
+    let signed = eqb (getD (r .signers) (a .j) 0) (a .signer) in
+    let differs = not (eqb (valueOf (getD (x .tops) (a .j) 0)) (a .v)) in
+    λ b. has-zero b ∙ sym (falls-then inside form (has (getD (y .learners) (a .j) 0) b) signed differs (sym (ap₂ (λ (t : Bool) (u : ℕ). t && not (eqb u (a .v))) (c .before .before .before .has-place .ensures) (c .before .value .ensures ∙ ap valueOf (c .before .before .top-at .ensures))) ∙ c .if2 .left))
 
 pub rivals-at-spec : {M : Type 1} → statement M
 rivals-at-spec =
     tie.close
     (tie.spec
-    shared-slice-read-if1
-    shared-slice-read-if1-2
+    form-at-requires
+    signer-at-requires
     returns
     has-place-requires
-    mul-value
-    shared-slice-read-value
+    top-at-requires
     value-requires
-    shared-slice-read-result
+    learners-at-requires
     returns-2
     returns-3)
