@@ -31,7 +31,7 @@ enum hpaxos_answer {
     HPAXOS_MALFORMED_1B = 14, /* 1b not well-formed */
     HPAXOS_MALFORMED_2A = 15, /* 2a not well-formed */
     HPAXOS_FULL = 16,         /* the round holds as many messages as it can */
-    HPAXOS_ARGUMENT = 17,     /* a lent buffer too short, a number that the graph lacks, or bytes that are no round */
+    HPAXOS_ARGUMENT = 17,     /* a lent buffer too short, a number that the graph lacks, no n-th reference, or bytes that are no round */
 
     HPAXOS_REPLIED = 256      /* a delivery with a reply; its length is added */
 };
@@ -66,8 +66,8 @@ enum hpaxos_state {
      5558    128  kinds; 1: a proposal, any other: an acceptor message
      5686    128  signers
      5814   1024  ballots of proposals, 8 bytes each
-     6838    128  place of an acceptor message's previous message; 255: none
-     6966    128  how many references an acceptor message has
+     6838    128  place of an acceptor message's previous message; 255: none, as for a proposal
+     6966    128  how many references an acceptor message has, at most 128; 0 for a proposal
      7094  16384  their places: place p has 128 bytes from 7094 + 128 * p on
     23478    128  known; 0: awaits its return
     23606    128  recent, the messages that the next reply refers to; 0: not in it */

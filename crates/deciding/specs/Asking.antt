@@ -9,7 +9,11 @@ use Rattle.voting.specs.Asking.{Graphed}
 
 -- the bytes hold a round, its masks are at hand, and the index of its notes has all its places
 pub record Reporting (s masks words octets : List ℕ) : Type 0 where
+  -- the bytes have room, and the masks are those of the graph;
   pub graphed : Graphed s masks
+  -- the arrays have room for the notes,
   pub lent : Lent words octets
+  -- the round has no more places than there can be,
   pub few : roundIn s .held ≤ maxHeld
+  -- and the index has them
   pub marked : Marks (roundIn s .held) (roundIn s) (wordNotes words) (byteNotes octets)

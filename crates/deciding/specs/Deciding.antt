@@ -29,7 +29,7 @@ abbrev pub isDeciding : Round → WordNotes → ByteNotes → ℕ → Bool → �
 isDeciding r x y a other v j =
     isKnown2a r y j && isQuorum (graphOf r) a (votersFor r x y a (getD (x .tops) j 0)) && (not other || not (eqb (valueOf (getD (x .tops) j 0)) v))
 
--- ---- the least of the numbers f j, j below n, that pass
+-- ---- the least so far, and a number that may pass
 unfoldable pub lowered : Least → Bool → ℕ → Least
 lowered p on z = pick (on && (not (p .found) || ltb z (p .ballot))) (record { found = true; ballot = z }) p
 
@@ -38,6 +38,7 @@ abbrev pub isLower : Round → WordNotes → ByteNotes → Least → Bool → �
 isLower r x y p other v j =
     isKnown2a r y j && (not other || not (eqb (valueOf (getD (x .tops) j 0)) v)) && (not (p .found) || ltb (getD (x .tops) j 0) (p .ballot))
 
+-- the least of the numbers f j, j below n, that pass
 unfoldable pub leastOf : (ℕ → Bool) → (ℕ → ℕ) → ℕ → Least
 leastOf test f zero = record { found = false; ballot = 0 }
 leastOf test f (suc n) = lowered (leastOf test f n) (test n) (f n)

@@ -1,4 +1,4 @@
-// A message that the round does not hold, judged by the notes of those that it does.
+// A message judged by the notes of those that the round holds.
 use graph::Mask;
 use meaning::Note;
 use notes::index::backers_of;

@@ -1,6 +1,7 @@
 // FIPS 180-4, section 6.2.2: the hash value after one block.
 ghost use mathlib.Core.Path.{_≡_};
-ghost use lib.ListN.{length};
+ghost use lib.ListN.{length, take};
+ghost use Rattle.digest.specs.Preprocessing.{words};
 ghost use Rattle.digest.specs.Sha256.{schedule, round, rounds, added, compressed};
 use crate::State;
 use crate::constants::K;
@@ -12,10 +13,10 @@ use crate::functions::small_sigma0;
 use crate::functions::small_sigma1;
 use base::read32;
 
-// Step 1: the message schedule of a block.
-fn schedule_of(block: &[u8]) -> [u32; 64]
+// Step 1: the words of a block, at the front of an array that has room for the whole schedule.
+fn block_words(block: &[u8]) -> [u32; 64]
     requires { ⌜ length (now block) ≡ 64 ⌝ }
-    ensures { λ r. ⌜ r ≡ schedule (now (block .entry)) ⌝ }
+    ensures { λ r. ⌜ take 16 r ≡ words 16 (now (block .entry)) ⌝ }
 {
     let mut w = [0u32; 64];
     let mut t: usize = 0;
@@ -23,6 +24,15 @@ fn schedule_of(block: &[u8]) -> [u32; 64]
         w[t] = read32(block, 4 * t);
         t += 1;
     }
+    w
+}
+
+// Step 1: the message schedule of a block.
+fn schedule_of(block: &[u8]) -> [u32; 64]
+    requires { ⌜ length (now block) ≡ 64 ⌝ }
+    ensures { λ r. ⌜ r ≡ schedule (now (block .entry)) ⌝ }
+{
+    let mut w = block_words(block);
     let mut u: usize = 16;
     while u < 64 {
         let x = std::num::wrapping_add_u32(small_sigma1(w[u - 2]), w[u - 7]);

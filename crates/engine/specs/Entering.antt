@@ -40,10 +40,13 @@ pub record Settles (s : List ℕ) (i : Id) (f : Found) (v : Vote) (buffer : List
 
 -- where no row applies
 pub record Enterable (s : List ℕ) (i : Id) (f : Found) : Type 0 where
+  -- the round passes row 17,
   pub passes : Passes s
+  -- the id is whole,
   pub id-bytes : length i ≡ idLen
+  -- f is what was found for it,
   pub found : placeFound f ≡ placeOf (roundIn s) i
-  -- nor does row 16
+  -- and there is room for the message
   pub free : T (not (full (roundIn s) i))
 
 -- ---- what an entering gives: the message h is known, at the place where it awaited its return or behind the others

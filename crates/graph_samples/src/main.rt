@@ -208,58 +208,12 @@ fn failed_front(file: &[u8], k: usize, answer: u32) -> u64
 fn cut_short() -> u64
     ensures { λ r. ⌜ r ≤ 48 ⌝ }
 {
-    let mut file = [
-        0u8,
-        48,
-        1,
-        4,
-        2,
-        4,
+    let mut file = [0u8; 50];
+    put_all(
+        &mut file,
         0,
-        7,
-        0,
-        11,
-        0,
-        13,
-        0,
-        14,
-        4,
-        0,
-        7,
-        0,
-        11,
-        0,
-        13,
-        0,
-        14,
-        4,
-        0,
-        7,
-        0,
-        11,
-        0,
-        13,
-        0,
-        14,
-        4,
-        0,
-        7,
-        0,
-        11,
-        0,
-        13,
-        0,
-        14,
-        4,
-        0,
-        7,
-        0,
-        11,
-        0,
-        13,
-        0,
-        14,
-    ];
+        b"\x00\x30\x01\x04\x02\x04\x00\x07\x00\x0b\x00\x0d\x00\x0e\x04\x00\x07\x00\x0b\x00\x0d\x00\x0e\x04\x00\x07\x00\x0b\x00\x0d\x00\x0e\x04\x00\x07\x00\x0b\x00\x0d\x00\x0e\x04\x00\x07\x00\x0b\x00\x0d\x00\x0e",
+    );
     let mut n: u64 = 0;
     let mut k: usize = 2;
     while k < 50 {

@@ -3,7 +3,9 @@
 use admission::start::own_fits;
 use base::size;
 use graph::LISTS;
+use graph::MAX_ACCEPTORS;
 use graph::MAX_LEARNERS;
+use graph::MAX_MASKS;
 use message::layout::PROPOSAL;
 use round::MAX_HELD;
 use round::NO_PLACE;
@@ -30,12 +32,17 @@ ghost use Rattle.round.specs.Limits.{maxHeld, noPlace};
 ghost use Rattle.roundbytes.specs.Layout.{roundLen, roundIn};
 ghost use Rattle.handed.specs.Counting.{Counted};
 
+// What a byte that counts is compared with.
+const MOST_ACCEPTORS: u8 = MAX_ACCEPTORS as u8;
+
+const MOST_MASKS: u8 = MAX_MASKS as u8;
+
 // Whether list k of the graph has at most eight masks, where it is in use. `pairs` is how many pairs of learners there are.
 fn list_fits(s: &[u8], learners: usize, pairs: usize, k: usize) -> bool
     requires { ⌜ Counted (now s) learners pairs k ⌝ }
     ensures { λ r. ⌜ r ≡ listFits (roundIn (now (s .entry)) .graph) k ⌝ }
 {
-    if s[LIST_COUNTS_AT + k] <= 8 {
+    if s[LIST_COUNTS_AT + k] <= MOST_MASKS {
         return true;
     }
     if k < learners {
@@ -73,7 +80,7 @@ fn graph_fits(s: &[u8]) -> bool
     if acceptors < 1 {
         return false;
     }
-    if 16 < acceptors {
+    if MOST_ACCEPTORS < acceptors {
         return false;
     }
     let learners = learners_of(s);

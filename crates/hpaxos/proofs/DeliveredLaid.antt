@@ -35,7 +35,7 @@ use Rattle.round.proofs.OneCall.{refused-leaves-all}
 use Rattle.round.proofs.Lists.{refused-or-not}
 use Rattle.round.proofs.Sha256.{sha256IsIdRule}
 use Rattle.roundbytes.specs.Layout.{Laid}
-use Rattle.roundbytes.proofs.Typing.{be-eight}
+use Rattle.roundbytes.proofs.Typing.{be-below}
 use Rattle.hpaxos.proofs.Bounds as bounds
 
 -- ---- ballots of eight bytes
@@ -75,7 +75,7 @@ module _ (r : Round) (h : Ballots r) (b : List ℕ) (bytes : Octets b) where
   taken-ballots (Refused e) q = h
   taken-ballots (OfProposer m) q =
       decided-ballots (offers (sha256 b) (m .proposer) (m .ballot)) (firstOf (proposalRows r (sha256 b) m))
-      (rw (of-proposer b m q .1) (be-eight b 9 bytes))
+      (rw (of-proposer b m q .1) (be-below 8 b 9 bytes))
   taken-ballots (OfAcceptor m) q =
       let v = voteRecord r (sha256 b) (m .signer) (previousId b m) (referenceIds b m) in
       decided-ballots v (firstOf (acceptorRows r (sha256 b) m (previousId b m) (referenceIds b m) (messageOf r v))) tt

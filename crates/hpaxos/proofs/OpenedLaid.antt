@@ -25,7 +25,7 @@ use Rattle.round.specs.Round.{Round}
 use Rattle.round.specs.Demands.{Starts}
 use Rattle.round.proofs.JustOpened.{opens}
 use Rattle.roundbytes.specs.Layout as layout
-use Rattle.roundbytes.proofs.Typing.{be-two}
+use Rattle.roundbytes.proofs.Typing.{be-below}
 use Rattle.hpaxos.proofs.Bounds as bounds
 
 abbrev Masks : List ℕ → Type 0
@@ -53,7 +53,7 @@ module _ (s : List ℕ) (o : Octets s) (n : ℕ) where
       let m = be 2 s at in
       let (p, f₁) = pick-got (ltb (length s) (at + 2)) Length _ l next f in
       let (q, f₂) = check-got (maskAnswer n e m) _ l next f₁ in
-      let small = be-two s at o in
+      let small = be-below 2 s at o in
       masks-read k (e ++ (m ∷ [])) (at + 2) l next (bounds.below-append (256 ^ 4) (omega arith) e (m ∷ []) h (bounds.below-one (256 ^ 4) (omega arith) m (omega arith))) f₂
 
   list-read : (low at : ℕ) (l : List ℕ) (next : ℕ) → readList s n low at ≡ got l next → Masks l

@@ -2,5 +2,5 @@
 pub mod Standing
 -- What an acceptor message refers to
 pub mod Referring
--- Rows 8 to 16 as they are asked
+-- Rows 14 to 16 as they are asked
 pub mod Turning

@@ -1,5 +1,5 @@
 // Rows 8 to 16 of the table "When a call is turned down", for a message that was read. The round stands in the bytes s. What was found for the
-// message's ids is handed in, so that no id is looked up twice.
+// message's ids is handed in, so that no id is looked up among the held ones twice.
 use admission::lookup::Found;
 use admission::rows::Vote;
 use admission::rows::is_awaited;

@@ -91,10 +91,6 @@ none-of : (a b c d : Bool) → (a && false && b && c && d) ≡ false
 none-of true b c d = refl
 none-of false b c d = refl
 
-or-false : (a : Bool) → (a || false) ≡ a
-or-false true = refl
-or-false false = refl
-
 no-two : (a b : Bool) → a ≡ false → (a && b) ≡ false
 no-two a b e = ap (λ (x : Bool). x && b) e
 

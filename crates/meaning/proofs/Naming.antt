@@ -54,7 +54,7 @@ same-name rn r s x y a f b g = same-test _ _ to from
 pub name-law : (rn : Round) (j n r s : ℕ) (id : Id) → j < n → Lowest rn j (idAt rn j) r → Lowest rn n id s → eqb r s ≡ sameId (idAt rn j) id
 name-law rn j n r s id l p q = same-name rn r s (idAt rn j) id (own rn j r p) (p .first) (λ h. q .here (let g = p .bound in omega arith)) (q .first)
 
--- the (bn .names) of two (rn .previous) places, or of none
+-- the names of two previous places, or of none
 pub link-law : (rn : Round) (bn : ByteNotes) (n x y : ℕ) → n ≤ maxHeld → Named rn n bn → (x ≡ noPlace) ⊎ (x < n) → (y ≡ noPlace) ⊎ (y < n)
     → eqb (getD (bn .names) x 0) (getD (bn .names) y 0) ≡ samePrevious (named rn x) (named rn y)
 unfolding samePrevious

@@ -1,4 +1,4 @@
--- What a message that is not held reaches, its ballot, and whether it is well-formed as a 1b: from the places that those before it reach, and their
+-- What a message put behind the held ones reaches, its ballot, and whether it is well-formed as a 1b: from the places that those before it reach, and their
 -- ballots. t holds the places before it, u the message besides, at place n.
 use mathlib.Core.Path.{_≡_, refl, sym, ap, ap₂, subst, _∙_}
 use mathlib.Core.Bool.{Bool, true, false, not, _&&_, _||_}
@@ -148,7 +148,7 @@ module _ (t : Table) (rn : Round) (wn : WordNotes) (ps : List ℕ) (rd : Reached
           formed2 = h₂ ∙ ap (formed2a G) message-is;
         }
 
-    -- a 1b: whether another message crowds it. The (bn .names) tell the ids of the places before it from its own
+    -- a 1b: whether another message crowds it. The names tell the ids of the places before it from its own
     module _ (G : LearnerGraph) (bn : ByteNotes) (name : ℕ) (id-is : (j : ℕ) (l : j < n) → eqb (getD (bn .names) j 0) name ≡ sameId (heldId (at u j)) id) where
       crowded-told : any (isCrowding rn wn bn lo hi name bal) (below n) ≡ not (all alone (below n))
       unfolding heldId

@@ -333,7 +333,7 @@ module _ (G : LearnerGraph) (t : Table) (rn : Round) (wn : WordNotes) (bn : Byte
     abbrev alone : ℕ → Bool
     alone = reaching.alone t rn wn ps rd id sig prev n size small back lo hi bal o bt
 
-    -- a 2a: whether it has (bn .learners)
+    -- a 2a: whether it has learners
     module _ (mask : ℕ) (hl : (q : ℕ) → has mask q ≡ any (λ a. isQuorum G a (backedBy rn wn bn n lo hi bal a) && eqb a q) (below (G .learners))) (two : o ≡ false) where
       all-asked : G .learners ≡ pick (not o) (G .learners) 0
       all-asked = ap (λ (z : Bool). pick (not z) (G .learners) 0) (sym two)

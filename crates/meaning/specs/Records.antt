@@ -16,7 +16,11 @@ tableTo r n = tabulate n (recordAt r)
 
 -- ---- what row 17 leaves: each previous place is none or held, and an acceptor message refers to earlier places, at most 128
 pub record Fit (n : ℕ) (r : Round) : Type 0 where
+  -- a round has the n places,
   pub held : n ≤ maxHeld
+  -- each has no more references than there can be,
   pub count : (p : ℕ) → p < n → getD (r .counts) p 0 ≤ maxHeld
+  -- its previous place is none or one of them,
   pub named : (p : ℕ) → p < n → (getD (r .previous) p 0 ≡ noPlace) ⊎ (getD (r .previous) p 0 < n)
+  -- and an acceptor message refers to earlier ones
   pub back : (p : ℕ) → p < n → isProposalAt r p ≡ false → (j : ℕ) → j ∈ referencesAt r p → j < p

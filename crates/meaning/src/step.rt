@@ -68,24 +68,13 @@ pub fn step<'a>(
     let name = name_at(octets, p);
     let link = name_at(octets, size(previous_at(s, p)));
     let walks = walks_for(words, set, u.ballot, signer, link);
-    let asked = walks.forks;
-    let forks = forking(s, octets, p, signer, name, link, asked);
-    let suspects = walks.caught;
-    let others = caught_in(s, words, p, set, suspects);
+    let forks = forking(s, octets, p, signer, name, link, walks.forks);
+    let others = caught_in(s, words, p, set, walks.caught);
     let caught = with_acceptor(others, signer, meet(u.low, u.high, forks.low, forks.high));
     let l = learners_of(s);
     let firsts = count_if(u.offered, l);
-    let against = opposing(
-        s,
-        words,
-        octets,
-        p,
-        firsts,
-        set,
-        signer,
-        value(u.ballot),
-        walks,
-    );
+    let v = value(u.ballot);
+    let against = opposing(s, words, octets, p, firsts, set, signer, v, walks);
     let free = fresh_for(s, masks, l, firsts, caught, against);
     let seconds = count_if(!u.offered, l);
     let backers = walks.backers;

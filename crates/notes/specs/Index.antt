@@ -40,18 +40,28 @@ linkAt r y j = getD (y .names) (getD (r .previous) j 0) 0
 
 -- each of the first n places is in the sets of its keys, and in the set of those that fork where it does
 pub record Marks (n : ℕ) (r : Round) (x : WordNotes) (y : ByteNotes) : Type 0 where
+  -- of its signer,
   pub bySigner : Indexed n (λ j. signerKey (getD (r .signers) j 0)) (x .keylow) (x .keyhigh)
+  -- of its link,
   pub byLink : Indexed n (λ j. linkKey (linkAt r y j)) (x .keylow) (x .keyhigh)
+  -- of its ballot,
   pub byBallot : Indexed n (λ j. ballotKey (getD (x .tops) j 0)) (x .keylow) (x .keyhigh)
+  -- and of its form
   pub byForm : Indexed n (λ j. formKey (getD (y .forms) j 0)) (x .keylow) (x .keyhigh)
+  -- where it forks with one before it, it is among those that do
   pub forked : Marked n (x .forklow) (x .forkhigh) (x .forkedlow) (x .forkedhigh)
 
 -- place j is put into the sets of its keys, and no set loses a place
 pub record Put (keyLow keyHigh keyLow′ keyHigh′ : List ℕ) (signer link ballot form j : ℕ) : Type 0 where
+  -- no set loses a place,
   pub grown : Grown keyLow keyHigh keyLow′ keyHigh′
+  -- and it is in that of its signer,
   pub ofSigner : Filed keyLow′ keyHigh′ (signerKey signer) j
+  -- of its link,
   pub ofLink : Filed keyLow′ keyHigh′ (linkKey link) j
+  -- of its ballot,
   pub ofBallot : Filed keyLow′ keyHigh′ (ballotKey ballot) j
+  -- and of its form
   pub ofForm : Filed keyLow′ keyHigh′ (formKey form) j
 
 -- ---- a set has each place of (low, high) that is filed as a 1b and under the ballot
@@ -62,8 +72,13 @@ Backing x low high ballot setLow setHigh =
 
 -- ---- the places that are asked for a message which reaches the set (low, high), has this ballot, signer and link
 pub record Walked (x : WordNotes) (low high ballot signer link : ℕ) (r : Walks) : Type 0 where
+  -- those of its signer and link, which may fork with it
   pub forking : (q : ℕ) → q < maxHeld → Filed (x .keylow) (x .keyhigh) (signerKey signer) q → Filed (x .keylow) (x .keyhigh) (linkKey link) q → T (inSet (r .forks .low) (r .forks .high) q)
+  -- those that it reaches and that fork with one before them
   pub catching : (q : ℕ) → q < maxHeld → T (inSet low high q) → T (inSet (x .forkedlow) (x .forkedhigh) q) → T (inSet (r .caught .low) (r .caught .high) q)
+  -- the 2as that it reaches
   pub voting : (q : ℕ) → q < maxHeld → T (inSet low high q) → Filed (x .keylow) (x .keyhigh) (formKey 2) q → T (inSet (r .votes .low) (r .votes .high) q)
+  -- those of them that are of its signer
   pub rivalling : (q : ℕ) → q < maxHeld → T (inSet low high q) → Filed (x .keylow) (x .keyhigh) (formKey 2) q → Filed (x .keylow) (x .keyhigh) (signerKey signer) q → T (inSet (r .rivals .low) (r .rivals .high) q)
+  -- the 1bs of its ballot that it reaches
   pub backing : Backing x low high ballot (r .backers .low) (r .backers .high)

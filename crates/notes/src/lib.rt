@@ -1,4 +1,4 @@
-// The notes of the places of a round: what each held message means, in two lent arrays, with one reader and one writer for each column, and the index
+// The notes of the places of a round: what each held message means, in two lent arrays, with a reader for each column, the writers, and the index
 // over them, so that a question is asked of few places.
 use places::Places;
 use round::MAX_HELD;

@@ -49,7 +49,7 @@ pub fn read_message(bytes: &[u8], fields: &mut [u8]) -> u32
     match message::read(bytes) {
         Reading::Refused(r) => number(r),
         Reading::OfProposer(p) => {
-            let none = [0u8; 32];
+            let none = [0u8; ID_LEN];
             put_row(
                 fields,
                 PROPOSAL,
@@ -90,7 +90,7 @@ fn put_acceptor(bytes: &[u8], m: AcceptorMessage, fields: &mut [u8])
             count,
         );
     } else {
-        let none = [0u8; 32];
+        let none = [0u8; ID_LEN];
         put_row(
             fields,
             ACCEPTOR,

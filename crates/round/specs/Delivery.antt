@@ -75,7 +75,7 @@ withMarks r last known recent =
       recent = recent;
     }
 
--- a record put behind the held ones; known is 1 or 0. Only what it needs is written.
+-- a record put behind the held ones; known is 1 or 0. Of its references only those that it has are written.
 unfoldable pub hold : Round → Held → ℕ → Round
 hold r (offers i s b) known = withRow r (r .references) i proposalKind s b noPlace 0 known
 hold r (says i s p places) known = withRow r (putAt (r .references) (maxHeld * r .held) places) i acceptorKind s 0 (previousPlace r p) (length places) known

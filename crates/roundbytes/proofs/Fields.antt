@@ -12,12 +12,8 @@ use Rattle.graph.specs.Limits.{lists, maxMasks}
 use Rattle.message.specs.Layout.{idLen}
 use Rattle.round.specs.Holdings.{idAt}
 use Rattle.round.specs.Limits.{maxHeld}
-use Rattle.roundbytes.specs.Layout.{listCountsAt, masksAt, houseAt, bayAt, ownAt, heldAt, lastAt, idsAt, kindsAt, signersAt, ballotsAt, previousAt, countsAt, referencesAt, knownAt, recentAt, roundLen, numbers, graphIn, roundIn}
+use Rattle.roundbytes.specs.Layout.{listCountsAt, masksAt, houseAt, bayAt, ownAt, heldAt, lastAt, idsAt, kindsAt, signersAt, ballotsAt, previousAt, countsAt, referencesAt, knownAt, recentAt, roundLen, numbers, roundIn}
 use Rattle.roundbytes.proofs.Typing.{numbers-length}
-
-pub graph-in : (b : List ℕ) → roundIn b .graph ≡ graphIn b
-unfolding roundIn
-graph-in b = refl
 
 pub acceptors-in : (b : List ℕ) → roundIn b .graph .acceptors ≡ getD b 0 0
 unfolding roundIn

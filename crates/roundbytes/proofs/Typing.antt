@@ -2,6 +2,7 @@
 use mathlib.Core.Path.{_≡_, _∙_}
 use mathlib.Core.List.{List, [], _∷_}
 use Prim.Native.Nat.{ℕ, zero, suc, _+_, _*_, _^_, _≤_, _<_}
+use native.Mathlib.Nat.{pow-suc}
 use native.Mathlib.Omega.{arith}
 use lib.ListN.{length, drop, length-append}
 use Rattle.base.specs.Bytes.{be, Octets}
@@ -12,14 +13,11 @@ use Rattle.roundbytes.specs.Layout.{numbers, roundLen, roundIn, houseAt,
 use Rattle.round.specs.Limits.{maxHeld}
 use Rattle.message.specs.Layout.{idLen}
 
--- ---- numbers of two and of eight bytes
-pub be-two : (s : List ℕ) (at : ℕ) → Octets s → be 2 s at < 256 ^ 2
+-- ---- a number of w bytes
+pub be-below : (w : ℕ) (s : List ℕ) (at : ℕ) → Octets s → be w s at < 256 ^ w
 unfolding be
-be-two s at o = omega (arith, o (at + 0), o (at + 1))
-
-pub be-eight : (s : List ℕ) (at : ℕ) → Octets s → be 8 s at < 256 ^ 8
-unfolding be
-be-eight s at o = omega (arith, o (at + 0), o (at + 1), o (at + 2), o (at + 3), o (at + 4), o (at + 5), o (at + 6), o (at + 7))
+be-below zero s at o = omega arith
+be-below (suc w) s at o = let h = be-below w s at o in let e = pow-suc 256 w in omega (arith, o (at + w))
 
 pub numbers-length : (w n : ℕ) (s : List ℕ) (at : ℕ) → length (numbers w n s at) ≡ n
 unfolding numbers
@@ -30,8 +28,8 @@ pub read-typed : (b : List ℕ) → Octets b → roundLen ≤ length b → Typed
 unfolding roundIn
 read-typed b o h =
     record {
-      houseFits = be-two b houseAt o;
-      bayFits = be-two b bayAt o;
+      houseFits = be-below 2 b houseAt o;
+      bayFits = be-below 2 b bayAt o;
       idsSize = part-length (idLen * maxHeld) b idsAt (omega arith);
       kindsSize = part-length maxHeld b kindsAt (omega arith);
       signersSize = part-length maxHeld b signersAt (omega arith);

@@ -1,4 +1,4 @@
--- A round as bytes, for hosts that keep it in a buffer of their own: a fixed layout, every field in the order of the struct, numbers
+-- A round as bytes, for hosts that keep it in a buffer of their own: a fixed layout, every field in the order of the record Round, numbers
 -- big-endian. Every string of that many bytes is a round.
 use mathlib.Core.List.{List, [], _∷_, _++_}
 use mathlib.Core.Path.{_≡_}
@@ -142,7 +142,7 @@ pub record Laid (r : Round) : Type 0 where
   pub ownFits : r .own < 256 ^ 2
   pub ballotFits : (i : ℕ) → getD (r .ballots) i 0 < 256 ^ 8
 
--- ---- what holds of the layout; proofs/RoundBytes proves each under the same name. What stands behind a round's own bytes does not matter.
+-- ---- what holds of the layout; proofs/RoundBytes proves each, as `round-reads-back` and `bytes-written-back`. What stands behind a round's own bytes does not matter.
 -- a round that was written is read back
 abbrev pub RoundReadsBack : Type 0
 RoundReadsBack = (r : Round) (behind : List ℕ) → Laid r → roundIn (roundBytes r ++ behind) ≡ r

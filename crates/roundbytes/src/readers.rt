@@ -1,4 +1,4 @@
-// One reader for each field of a round in bytes. Whoever needs a field asks here, so that no other crate adds up where it stands.
+// A reader for each field of a round that is one number. Whoever needs such a field asks here, so that no other crate adds up where it stands.
 use crate::ACCEPTORS_AT;
 use crate::BALLOTS_AT;
 use crate::BAY_AT;

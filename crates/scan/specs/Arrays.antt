@@ -68,14 +68,22 @@ pub record Named (r : Round) (n : ℕ) (y : ByteNotes) : Type 0 where
 
 -- ---- one place more has its name and is in the index of the ids; nothing else of the notes is another
 pub record NamedMore (r : Round) (i name : ℕ) (x x′ : WordNotes) (y y′ : ByteNotes) : Type 0 where
+  -- its name is the lowest place with its id,
   pub lowest : Lowest r i (idAt r i) name
+  -- and is put among the names;
   pub named : y′ ≡ withName y i name
+  -- it is in the index of the ids,
   pub indexed : IdsIndexed r (i + 1) x′
+  -- and all else stays
   pub rest : x′ ≡ withIds x (x′ .idlow) (x′ .idhigh)
 
 -- ---- the first n places have their names and are in the index of the ids; nothing else of the notes is another
 pub record NamedAll (r : Round) (n : ℕ) (x x′ : WordNotes) (y y′ : ByteNotes) : Type 0 where
+  -- the names are right,
   pub named : Named r n y′
+  -- and so is the index of the ids;
   pub indexed : IdsIndexed r n x′
+  -- of the words only that index is another,
   pub words : x′ ≡ withIds x (x′ .idlow) (x′ .idhigh)
+  -- of the bytes only the names
   pub octets : y′ ≡ withNames y (y′ .names)

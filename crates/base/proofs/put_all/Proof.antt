@@ -9,6 +9,7 @@ use native.Mathlib.Omega.{arith}
 use Rattle.base.proofs.put_all.Statement.{statement}
 use Rattle.base.proofs.put_all.Tie as tie
 
+-- the first i bytes are copied, and no other byte is another
 abbrev Inv-loop : tie.InvT-loop
 Inv-loop buf₀ at src i₀ buf i = (i ≤ length src) × ((length buf ≡ length buf₀) × (buf ≡ paste buf₀ at src i))
 

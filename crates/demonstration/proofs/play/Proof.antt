@@ -4,6 +4,7 @@ use borrow.Author.Needs.{needs}
 use Rattle.demonstration.proofs.play.Statement.{statement}
 use Rattle.demonstration.proofs.play.Tie as tie
 
+-- i counts the deliveries that were played, and there are no more than the script has
 abbrev Inv-loop : tie.InvT-loop
 Inv-loop script s₀ i₀ s i = i ≤ length script
 

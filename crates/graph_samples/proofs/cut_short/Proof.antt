@@ -5,11 +5,21 @@ use borrow.Author.Needs.{needs}
 use Rattle.graph_samples.proofs.cut_short.Statement.{statement}
 use Rattle.graph_samples.proofs.cut_short.Tie as tie
 
+-- the file is as long as it was, and of the cuts up to k no more were turned down than were tried
 abbrev Inv-loop : tie.InvT-loop
 Inv-loop file₀ n₀ k₀ file n k = (2 ≤ k) × ((k ≤ 50) × ((n + 2 ≤ k) × (length file ≡ 50)))
 
 abbrev μ-loop : tie.MeasureT-loop
 μ-loop file₀ n₀ k₀ file n k = 50 - k
+
+slice-aggregate-put-all : tie.Need-slice-aggregate-put-all Inv-loop μ-loop
+slice-aggregate-put-all c = search needs
+
+slice-aggregate-put-all-2 : tie.Need-slice-aggregate-put-all-2 Inv-loop μ-loop
+slice-aggregate-put-all-2 c = search needs
+
+put-all-requires : tie.Need-put-all-requires Inv-loop μ-loop
+put-all-requires c κs = search needs
 
 loop-holds : tie.Need-loop-holds Inv-loop μ-loop
 loop-holds c = search needs
@@ -50,6 +60,9 @@ cut-short-spec =
     (tie.spec
     Inv-loop
     μ-loop
+    slice-aggregate-put-all
+    slice-aggregate-put-all-2
+    put-all-requires
     loop-holds
     slice-aggregate-put16
     sub-put16

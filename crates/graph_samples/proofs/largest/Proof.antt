@@ -5,6 +5,7 @@ use borrow.Author.Needs.{needs}
 use Rattle.graph_samples.proofs.largest.Statement.{statement}
 use Rattle.graph_samples.proofs.largest.Tie as tie
 
+-- k lists are written, and the file is as long as it was
 abbrev Inv-loop : tie.InvT-loop
 Inv-loop list file₀ k₀ file k = (k ≤ 44) × ((length file ≡ 753) × (length list ≡ 17))
 

@@ -5,6 +5,7 @@ use borrow.Author.Needs.{needs}
 use Rattle.message_samples.proofs.acceptor.Statement.{statement}
 use Rattle.message_samples.proofs.acceptor.Tie as tie
 
+-- k references are written, and the buffer is as long as it was
 abbrev Inv-loop : tie.InvT-loop
 Inv-loop marker at count n m₀ k₀ m k = (k ≤ n) × (length m ≡ 4300)
 

@@ -3,6 +3,7 @@ use borrow.Author.Needs.{needs}
 use Rattle.message_samples.proofs.cuts.Statement.{statement}
 use Rattle.message_samples.proofs.cuts.Tie as tie
 
+-- no cut takes the two bytes of the length
 abbrev Inv-loop : tie.InvT-loop
 Inv-loop m len t₀ n₀ t n = (2 ≤ n)
 

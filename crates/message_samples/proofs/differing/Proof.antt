@@ -3,6 +3,7 @@ use borrow.Author.Needs.{needs}
 use Rattle.message_samples.proofs.differing.Statement.{statement}
 use Rattle.message_samples.proofs.differing.Tie as tie
 
+-- i counts the bytes that were compared
 abbrev Inv-loop : tie.InvT-loop
 Inv-loop a b n d₀ i₀ d i = i ≤ n
 

@@ -3,6 +3,7 @@ use borrow.Author.Needs.{needs}
 use Rattle.round_samples.proofs.fill.Statement.{statement}
 use Rattle.round_samples.proofs.fill.Tie as tie
 
+-- k counts the messages that were delivered
 abbrev Inv-loop : tie.InvT-loop
 Inv-loop n t₀ r₀ k₀ t r k = k ≤ n
 

@@ -1,5 +1,5 @@
--- The first invariant: the first t words of w are the block's first t words. The second: the first u are the schedule's. The measures are the words left.
-use mathlib.Core.Path.{_≡_, refl, ap, ap₂, sym, _∙_}
+-- The invariant: the first u words of w are the schedule's first u words. The measure is the words left.
+use mathlib.Core.Path.{_≡_, ap, ap₂, sym, _∙_}
 use mathlib.Core.List.{List, [], _∷_, _++_}
 use Prim.Native.Nat.{ℕ, suc, _≤_, _<_, _-_, _+_}
 use native.Mathlib.Numerals.{add-one}
@@ -15,138 +15,94 @@ use Rattle.digest.proofs.block.schedule_of.Statement.{statement}
 use Rattle.digest.proofs.block.schedule_of.Tie as tie
 
 abbrev Inv-loop : tie.InvT-loop
-Inv-loop b w₀ t₀ w t = (t ≤ 16) × ((length w ≡ 64) × (take t w ≡ words t b))
+Inv-loop b w₀ u₀ w u = (16 ≤ u) × ((u ≤ 64) × ((length w ≡ 64) × (take u w ≡ extended (u - 16) (words 16 b))))
 
 abbrev μ-loop : tie.MeasureT-loop
-μ-loop b w₀ t₀ w t = 16 - t
+μ-loop b w₀ u₀ w u = 64 - u
 
-abbrev Inv-loop2 : tie.InvT-loop2
-Inv-loop2 b w₀ t u₀ w u = (16 ≤ u) × ((u ≤ 64) × ((length w ≡ 64) × (take u w ≡ extended (u - 16) (words 16 b))))
+block-words-requires : tie.Need-block-words-requires Inv-loop μ-loop
+block-words-requires c κs = search needs
 
-abbrev μ-loop2 : tie.MeasureT-loop2
-μ-loop2 b w₀ t u₀ w u = 64 - u
-
-loop-holds : tie.Need-loop-holds Inv-loop μ-loop Inv-loop2 μ-loop2
-unfolding words
-loop-holds c = (omega arith, (refl, refl))
-
-mul-read32 : tie.Need-mul-read32 Inv-loop μ-loop Inv-loop2 μ-loop2
-mul-read32 c = search needs
-
-read32-requires : tie.Need-read32-requires Inv-loop μ-loop Inv-loop2 μ-loop2
-read32-requires c κs = search needs
-
-mul-w : tie.Need-mul-w Inv-loop μ-loop Inv-loop2 μ-loop2
-mul-w c = search needs
-
-array-write-w : tie.Need-array-write-w Inv-loop μ-loop Inv-loop2 μ-loop2
-array-write-w c = search needs
-
-add-t : tie.Need-add-t Inv-loop μ-loop Inv-loop2 μ-loop2
-add-t c = search needs
-
-loop-less : tie.Need-loop-less Inv-loop μ-loop Inv-loop2 μ-loop2
-loop-less c = search needs
-
-loop-again : tie.Need-loop-again Inv-loop μ-loop Inv-loop2 μ-loop2
-unfolding words
-loop-again c =
-    let b = c .before .before .before .before .args .block .now in
-    let l = c .before .before .loop in
-    let x = c .read32 .result in
-    let step : take (suc (l .t)) (set (l .w) (l .t) x) ≡ take (l .t) (l .w) ++ (x ∷ []) = take-suc-set (l .w) (l .t) x (omega (arith, l .inv .1 .0)) in (
-      omega arith,
-      (
-        length-set (l .w) (l .t) x ∙ l .inv .1 .0,
-        ap (λ (n : ℕ). take n (set (l .w) (l .t) x)) (add-one (l .t)) ∙ step
-            ∙ ap₂ (λ (p : List ℕ) (y : ℕ). p ++ (y ∷ [])) (l .inv .1 .1) (c .read32 .ensures)
-            ∙ sym (ap (λ (n : ℕ). words n b) (add-one (l .t))),
-      ),
-    )
-
-loop2-holds : tie.Need-loop2-holds Inv-loop μ-loop Inv-loop2 μ-loop2
+loop-holds : tie.Need-loop-holds Inv-loop μ-loop
 unfolding extended
-loop2-holds c =
-    let l = c .before .loop in
-    let e : l .t ≡ 16 = omega arith in
-    (omega arith, (omega arith, (l .inv .1 .0, ap (λ (n : ℕ). take n (l .w)) (sym e) ∙ l .inv .1 .1 ∙ ap (λ (n : ℕ). words n (c .before .before .before .args .block .now)) e)))
+loop-holds c = (omega arith, (omega arith, (search needs, c .block-words .ensures)))
 
-sub-small-sigma1 : tie.Need-sub-small-sigma1 Inv-loop μ-loop Inv-loop2 μ-loop2
+sub-small-sigma1 : tie.Need-sub-small-sigma1 Inv-loop μ-loop
 sub-small-sigma1 c = search needs
 
-mul-small-sigma1 : tie.Need-mul-small-sigma1 Inv-loop μ-loop Inv-loop2 μ-loop2
+mul-small-sigma1 : tie.Need-mul-small-sigma1 Inv-loop μ-loop
 mul-small-sigma1 c = search needs
 
-array-read-small-sigma1 : tie.Need-array-read-small-sigma1 Inv-loop μ-loop Inv-loop2 μ-loop2
+array-read-small-sigma1 : tie.Need-array-read-small-sigma1 Inv-loop μ-loop
 array-read-small-sigma1 c = search needs
 
-small-sigma1-requires : tie.Need-small-sigma1-requires Inv-loop μ-loop Inv-loop2 μ-loop2
+small-sigma1-requires : tie.Need-small-sigma1-requires Inv-loop μ-loop
 small-sigma1-requires c κs = search needs
 
-sub-wrapping-add-u32 : tie.Need-sub-wrapping-add-u32 Inv-loop μ-loop Inv-loop2 μ-loop2
+sub-wrapping-add-u32 : tie.Need-sub-wrapping-add-u32 Inv-loop μ-loop
 sub-wrapping-add-u32 c = search needs
 
-mul-wrapping-add-u32 : tie.Need-mul-wrapping-add-u32 Inv-loop μ-loop Inv-loop2 μ-loop2
+mul-wrapping-add-u32 : tie.Need-mul-wrapping-add-u32 Inv-loop μ-loop
 mul-wrapping-add-u32 c = search needs
 
 array-read-wrapping-add-u32 :
-    tie.Need-array-read-wrapping-add-u32 Inv-loop μ-loop Inv-loop2 μ-loop2
+    tie.Need-array-read-wrapping-add-u32 Inv-loop μ-loop
 array-read-wrapping-add-u32 c = search needs
 
-wrapping-add-u32-requires : tie.Need-wrapping-add-u32-requires Inv-loop μ-loop Inv-loop2 μ-loop2
+wrapping-add-u32-requires : tie.Need-wrapping-add-u32-requires Inv-loop μ-loop
 wrapping-add-u32-requires c κs = search needs
 
-sub-small-sigma0 : tie.Need-sub-small-sigma0 Inv-loop μ-loop Inv-loop2 μ-loop2
+sub-small-sigma0 : tie.Need-sub-small-sigma0 Inv-loop μ-loop
 sub-small-sigma0 c = search needs
 
-mul-small-sigma0 : tie.Need-mul-small-sigma0 Inv-loop μ-loop Inv-loop2 μ-loop2
+mul-small-sigma0 : tie.Need-mul-small-sigma0 Inv-loop μ-loop
 mul-small-sigma0 c = search needs
 
-array-read-small-sigma0 : tie.Need-array-read-small-sigma0 Inv-loop μ-loop Inv-loop2 μ-loop2
+array-read-small-sigma0 : tie.Need-array-read-small-sigma0 Inv-loop μ-loop
 array-read-small-sigma0 c = search needs
 
-small-sigma0-requires : tie.Need-small-sigma0-requires Inv-loop μ-loop Inv-loop2 μ-loop2
+small-sigma0-requires : tie.Need-small-sigma0-requires Inv-loop μ-loop
 small-sigma0-requires c κs = search needs
 
 wrapping-add-u32-requires-2 :
-    tie.Need-wrapping-add-u32-requires-2 Inv-loop μ-loop Inv-loop2 μ-loop2
+    tie.Need-wrapping-add-u32-requires-2 Inv-loop μ-loop
 wrapping-add-u32-requires-2 c κs = search needs
 
-sub-wrapping-add-u32-2 : tie.Need-sub-wrapping-add-u32-2 Inv-loop μ-loop Inv-loop2 μ-loop2
+sub-wrapping-add-u32-2 : tie.Need-sub-wrapping-add-u32-2 Inv-loop μ-loop
 sub-wrapping-add-u32-2 c = search needs
 
-mul-wrapping-add-u32-2 : tie.Need-mul-wrapping-add-u32-2 Inv-loop μ-loop Inv-loop2 μ-loop2
+mul-wrapping-add-u32-2 : tie.Need-mul-wrapping-add-u32-2 Inv-loop μ-loop
 mul-wrapping-add-u32-2 c = search needs
 
 array-read-wrapping-add-u32-2 :
-    tie.Need-array-read-wrapping-add-u32-2 Inv-loop μ-loop Inv-loop2 μ-loop2
+    tie.Need-array-read-wrapping-add-u32-2 Inv-loop μ-loop
 array-read-wrapping-add-u32-2 c = search needs
 
 wrapping-add-u32-requires-3 :
-    tie.Need-wrapping-add-u32-requires-3 Inv-loop μ-loop Inv-loop2 μ-loop2
+    tie.Need-wrapping-add-u32-requires-3 Inv-loop μ-loop
 wrapping-add-u32-requires-3 c κs = search needs
 
-mul-w-2 : tie.Need-mul-w-2 Inv-loop μ-loop Inv-loop2 μ-loop2
-mul-w-2 c = search needs
+mul-w : tie.Need-mul-w Inv-loop μ-loop
+mul-w c = search needs
 
-array-write-w-2 : tie.Need-array-write-w-2 Inv-loop μ-loop Inv-loop2 μ-loop2
-array-write-w-2 c = search needs
+array-write-w : tie.Need-array-write-w Inv-loop μ-loop
+array-write-w c = search needs
 
-add-u : tie.Need-add-u Inv-loop μ-loop Inv-loop2 μ-loop2
+add-u : tie.Need-add-u Inv-loop μ-loop
 add-u c = search needs
 
-loop2-less : tie.Need-loop2-less Inv-loop μ-loop Inv-loop2 μ-loop2
-loop2-less c = search needs
+loop-less : tie.Need-loop-less Inv-loop μ-loop
+loop-less c = search needs
 
-loop2-again : tie.Need-loop2-again Inv-loop μ-loop Inv-loop2 μ-loop2
+loop-again : tie.Need-loop-again Inv-loop μ-loop
 unfolding extended nextWord
-loop2-again c =
-    let l = c .before .before .before .before .before .before .loop2 in
-    let p = words 16 (c .before .before .before .before .before .before .before .before .before .before .args .block .now) in
+loop-again c =
+    let l = c .before .before .before .before .before .before .loop in
+    let p = words 16 (c .before .before .before .before .before .before .before .before .before .args .block .now) in
     let g = extended (l .u - 16) p in
     let x = c .wrapping-add-u323 .result in
     let low : 16 ≤ l .u = l .inv .0 in
-    let high : l .u < 64 = c .before .before .before .before .before .loop2-test .taken in
+    let high : l .u < 64 = c .before .before .before .before .before .loop-test .taken in
     let size : length (l .w) ≡ 64 = l .inv .1 .1 .0 in
     let e : take (l .u) (l .w) ≡ g = l .inv .1 .1 .1 in
     let back : (j : ℕ) → 0 < j → j ≤ 16 → getD (l .w) (l .u - j) 0 ≡ getD g (l .u - j) 0 =
@@ -173,11 +129,11 @@ loop2-again c =
       ),
     )
 
-returns : tie.Need-returns Inv-loop μ-loop Inv-loop2 μ-loop2
+returns : tie.Need-returns Inv-loop μ-loop
 unfolding schedule
 returns c =
-    let l = c .before .loop2 in
-    let b = c .before .before .before .before .before .args .block .now in
+    let l = c .before .loop in
+    let b = c .before .before .before .before .args .block .now in
     let e : l .u ≡ 64 = omega arith in
     sym (take-all 64 (l .w) (omega (arith, l .inv .1 .1 .0))) ∙ ap (λ (n : ℕ). take n (l .w)) (sym e) ∙ l .inv .1 .1 .1
     ∙ ap (λ (n : ℕ). extended (n - 16) (words 16 b)) e
@@ -188,17 +144,8 @@ schedule-of-spec =
     (tie.spec
     Inv-loop
     μ-loop
-    Inv-loop2
-    μ-loop2
+    block-words-requires
     loop-holds
-    mul-read32
-    read32-requires
-    mul-w
-    array-write-w
-    add-t
-    loop-less
-    loop-again
-    loop2-holds
     sub-small-sigma1
     mul-small-sigma1
     array-read-small-sigma1
@@ -216,9 +163,9 @@ schedule-of-spec =
     mul-wrapping-add-u32-2
     array-read-wrapping-add-u32-2
     wrapping-add-u32-requires-3
-    mul-w-2
-    array-write-w-2
+    mul-w
+    array-write-w
     add-u
-    loop2-less
-    loop2-again
+    loop-less
+    loop-again
     returns)

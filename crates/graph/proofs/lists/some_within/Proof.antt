@@ -8,6 +8,7 @@ use borrow.Author.Needs.{needs}
 use Rattle.graph.proofs.lists.some_within.Statement.{statement}
 use Rattle.graph.proofs.lists.some_within.Tie as tie
 
+-- no mask before place i lies within the set
 abbrev Inv-loop : tie.InvT-loop
 Inv-loop masks from to set i₀ i = any (within set) (slice from to masks) ≡ any (within set) (slice i to masks)
 

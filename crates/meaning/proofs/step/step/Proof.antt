@@ -83,6 +83,20 @@ walks-for-requires c κs = search needs
 
 forking-requires : tie.Need-forking-requires
 forking-requires c κs =
+    let a = c .before .before .before .before .before .before .before .before .before .before .before .before .before .before .args in
+    let pre = c .before .before .before .before .before .before .before .before .before .before .before .before .before .before .pre in
+    let g = pre .0 .given in
+    let few = g .fit .held in
+    let l = pre .1 .0 in
+    let r = roundIn (a .s .now) in
+    let x = wordNotes (a .words .now) in
+    let y = byteNotes (a .octets .now) in
+    let u = c .before .before .before .before .before .before .under .result in
+    let w = c .walks-for in
+    (g .graphed .long, (g .lent .octetRoom, record { few = omega arith; covers = covers-forks (a .p) r x y (omega arith) (pre .0 .marked) (u .low) (u .high) (u .ballot) (c .before .before .before .before .before .signer-at .result) (c .before .name-at2 .result) (w .result) (w .ensures) (c .before .before .before .before .name-at .result) }))
+
+caught-in-requires : tie.Need-caught-in-requires
+caught-in-requires c κs =
     let a = c .before .before .before .before .before .before .before .before .before .before .before .before .before .before .before .args in
     let pre = c .before .before .before .before .before .before .before .before .before .before .before .before .before .before .before .pre in
     let g = pre .0 .given in
@@ -93,21 +107,7 @@ forking-requires c κs =
     let y = byteNotes (a .octets .now) in
     let u = c .before .before .before .before .before .before .before .under .result in
     let w = c .before .walks-for in
-    (g .graphed .long, (g .lent .octetRoom, record { few = omega arith; covers = covers-forks (a .p) r x y (omega arith) (pre .0 .marked) (u .low) (u .high) (u .ballot) (c .before .before .before .before .before .before .signer-at .result) (c .before .before .name-at2 .result) (w .result) (w .ensures) (c .before .before .before .before .before .name-at .result) }))
-
-caught-in-requires : tie.Need-caught-in-requires
-caught-in-requires c κs =
-    let a = c .before .before .before .before .before .before .before .before .before .before .before .before .before .before .before .before .before .args in
-    let pre = c .before .before .before .before .before .before .before .before .before .before .before .before .before .before .before .before .before .pre in
-    let g = pre .0 .given in
-    let few = g .fit .held in
-    let l = pre .1 .0 in
-    let r = roundIn (a .s .now) in
-    let x = wordNotes (a .words .now) in
-    let y = byteNotes (a .octets .now) in
-    let u = c .before .before .before .before .before .before .before .before .before .under .result in
-    let w = c .before .before .before .walks-for in
-    (g .graphed .long, (g .lent .wordRoom, record { few = omega arith; covers = covers-caught (a .p) r x y (omega arith) (pre .0 .marked) (u .low) (u .high) (u .ballot) (c .before .before .before .before .before .before .before .before .signer-at .result) (c .before .before .before .before .name-at2 .result) (w .result) (w .ensures) }))
+    (g .graphed .long, (g .lent .wordRoom, record { few = omega arith; covers = covers-caught (a .p) r x y (omega arith) (pre .0 .marked) (u .low) (u .high) (u .ballot) (c .before .before .before .before .before .before .signer-at .result) (c .before .before .name-at2 .result) (w .result) (w .ensures) }))
 
 meet-requires : tie.Need-meet-requires
 meet-requires c κs = search needs
@@ -117,7 +117,7 @@ with-acceptor-requires c κs = search needs
 
 learners-of-requires : tie.Need-learners-of-requires
 learners-of-requires c κs =
-    c .before .before .before .before .before .before .before .before .before .before .before .before .before .before .before .before .before .before .before .before .pre .0 .given .graphed .long
+    c .before .before .before .before .before .before .before .before .before .before .before .before .before .before .before .before .before .before .pre .0 .given .graphed .long
 
 count-if-requires : tie.Need-count-if-requires
 count-if-requires c κs = search needs
@@ -127,18 +127,18 @@ value-requires c κs = search needs
 
 opposing-requires : tie.Need-opposing-requires
 opposing-requires c κs =
-    let a = c .before .before .before .before .before .before .before .before .before .before .before .before .before .before .before .before .before .before .before .before .before .before .before .args in
-    let pre = c .before .before .before .before .before .before .before .before .before .before .before .before .before .before .before .before .before .before .before .before .before .before .before .pre in
+    let a = c .before .before .before .before .before .before .before .before .before .before .before .before .before .before .before .before .before .before .before .before .before .args in
+    let pre = c .before .before .before .before .before .before .before .before .before .before .before .before .before .before .before .before .before .before .before .before .before .pre in
     let g = pre .0 .given in
     let few = g .fit .held in
     let l = pre .1 .0 in
     let r = roundIn (a .s .now) in
     let x = wordNotes (a .words .now) in
     let y = byteNotes (a .octets .now) in
-    let u = c .before .before .before .before .before .before .before .before .before .before .before .before .before .before .before .under .result in
-    let w = c .before .before .before .before .before .before .before .before .before .walks-for in
-    let sig = c .before .before .before .before .before .before .before .before .before .before .before .before .before .before .signer-at .result in
-    let link = c .before .before .before .before .before .before .before .before .before .before .name-at2 .result in (
+    let u = c .before .before .before .before .before .before .before .before .before .before .before .before .before .under .result in
+    let w = c .before .before .before .before .before .before .before .walks-for in
+    let sig = c .before .before .before .before .before .before .before .before .before .before .before .before .signer-at .result in
+    let link = c .before .before .before .before .before .before .before .before .name-at2 .result in (
       record {
         asked = record { long = g .graphed .long; lent = g .lent };
         few = omega arith;
@@ -150,7 +150,7 @@ opposing-requires c κs =
 
 fresh-for-requires : tie.Need-fresh-for-requires
 fresh-for-requires c κs =
-    let g = c .before .before .before .before .before .before .before .before .before .before .before .before .before .before .before .before .before .before .before .before .before .before .before .before .pre .0 .given in
+    let g = c .before .before .before .before .before .before .before .before .before .before .before .before .before .before .before .before .before .before .before .before .before .before .pre .0 .given in
     let n = c .before .before .before .learners-of .ensures .0 in
     (g .graphed, (omega (arith, g .learners, c .before .before .count-if .ensures .1, n), omega (arith, g .learners, n)))
 
@@ -159,6 +159,23 @@ count-if-requires-2 c κs = search needs
 
 learners-for-requires : tie.Need-learners-for-requires
 learners-for-requires c κs =
+    let a = c .before .before .before .before .before .before .before .before .before .before .before .before .before .before .before .before .before .before .before .before .before .before .before .before .before .before .args in
+    let pre = c .before .before .before .before .before .before .before .before .before .before .before .before .before .before .before .before .before .before .before .before .before .before .before .before .before .before .pre in
+    let g = pre .0 .given in
+    let few = g .fit .held in
+    let l = pre .1 .0 in
+    let r = roundIn (a .s .now) in
+    let x = wordNotes (a .words .now) in
+    let y = byteNotes (a .octets .now) in
+    let u = c .before .before .before .before .before .before .before .before .before .before .before .before .before .before .before .before .before .before .under .result in
+    let w = c .before .before .before .before .before .before .before .before .before .before .before .before .walks-for in
+    (g .graphed, (record { asked = record { long = g .graphed .long; lent = g .lent }; few = omega arith; backers = covers-backers (a .p) r x y (omega arith) (pre .0 .marked) (u .low) (u .high) (u .ballot) (w .result .backers .low) (w .result .backers .high) (w .ensures .backing) }, omega (arith, g .learners, c .before .count-if2 .ensures .1, c .before .before .before .before .before .before .before .learners-of .ensures .0)))
+
+form-of-requires : tie.Need-form-of-requires
+form-of-requires c κs = search needs
+
+returns : tie.Need-returns
+returns c =
     let a = c .before .before .before .before .before .before .before .before .before .before .before .before .before .before .before .before .before .before .before .before .before .before .before .before .before .before .before .before .args in
     let pre = c .before .before .before .before .before .before .before .before .before .before .before .before .before .before .before .before .before .before .before .before .before .before .before .before .before .before .before .before .pre in
     let g = pre .0 .given in
@@ -167,35 +184,18 @@ learners-for-requires c κs =
     let r = roundIn (a .s .now) in
     let x = wordNotes (a .words .now) in
     let y = byteNotes (a .octets .now) in
-    let u = c .before .before .before .before .before .before .before .before .before .before .before .before .before .before .before .before .before .before .before .before .under .result in
-    let w = c .before .before .before .before .before .before .before .before .before .before .before .before .before .before .walks-for in
-    (g .graphed, (record { asked = record { long = g .graphed .long; lent = g .lent }; few = omega arith; backers = covers-backers (a .p) r x y (omega arith) (pre .0 .marked) (u .low) (u .high) (u .ballot) (w .result .backers .low) (w .result .backers .high) (w .ensures .backing) }, omega (arith, g .learners, c .before .count-if2 .ensures .1, c .before .before .before .before .before .before .before .learners-of .ensures .0)))
-
-form-of-requires : tie.Need-form-of-requires
-form-of-requires c κs = search needs
-
-returns : tie.Need-returns
-returns c =
-    let a = c .before .before .before .before .before .before .before .before .before .before .before .before .before .before .before .before .before .before .before .before .before .before .before .before .before .before .before .before .before .before .args in
-    let pre = c .before .before .before .before .before .before .before .before .before .before .before .before .before .before .before .before .before .before .before .before .before .before .before .before .before .before .before .before .before .before .pre in
-    let g = pre .0 .given in
-    let few = g .fit .held in
-    let l = pre .1 .0 in
-    let r = roundIn (a .s .now) in
-    let x = wordNotes (a .words .now) in
-    let y = byteNotes (a .octets .now) in
-    let n = c .before .before .before .before .before .before .before .before .before .before .before .before .before .before .before .before .before .before .before .before .before .before .before .before .size in
+    let n = c .before .before .before .before .before .before .before .before .before .before .before .before .before .before .before .before .before .before .before .before .before .before .size in
     let most = g .fit .count (a .p) l in
     let ps = take (referencesAt + maxHeld * a .p + n .result - (referencesAt + maxHeld * a .p)) (drop (referencesAt + maxHeld * a .p) (a .s .now)) in
-    let ec : n .result ≡ getD (r .counts) (a .p) 0 = n .ensures .0 ∙ c .before .before .before .before .before .before .before .before .before .before .before .before .before .before .before .before .before .before .before .before .before .before .before .before .before .count-at .ensures in
+    let ec : n .result ≡ getD (r .counts) (a .p) 0 = n .ensures .0 ∙ c .before .before .before .before .before .before .before .before .before .before .before .before .before .before .before .before .before .before .before .before .before .before .before .count-at .ensures in
     let eps = lent-references (a .s .now) (a .p) (n .result) (g .graphed .long) (omega (arith, few, l)) (omega (arith, most, ec)) ec in
-    let at = c .before .before .before .before .before .before .before .before .before .before .before .before .before .before .before .before .before .before .size2 in
-    let ey = at .ensures .0 ∙ c .before .before .before .before .before .before .before .before .before .before .before .before .before .before .before .before .before .before .before .previous-at .ensures in
-    let u = c .before .before .before .before .before .before .before .before .before .before .before .before .before .before .before .before .before .before .before .before .before .before .under .result in
-    let sig = c .before .before .before .before .before .before .before .before .before .before .before .before .before .before .before .before .before .before .before .before .before .signer-at in
-    let name = c .before .before .before .before .before .before .before .before .before .before .before .before .before .before .before .before .before .before .before .before .name-at in
-    let link = c .before .before .before .before .before .before .before .before .before .before .before .before .before .before .before .before .before .name-at2 in
-    let forks = c .before .before .before .before .before .before .before .before .before .before .before .before .before .before .forking in
+    let at = c .before .before .before .before .before .before .before .before .before .before .before .before .before .before .before .before .size2 in
+    let ey = at .ensures .0 ∙ c .before .before .before .before .before .before .before .before .before .before .before .before .before .before .before .before .before .previous-at .ensures in
+    let u = c .before .before .before .before .before .before .before .before .before .before .before .before .before .before .before .before .before .before .before .before .under .result in
+    let sig = c .before .before .before .before .before .before .before .before .before .before .before .before .before .before .before .before .before .before .before .signer-at in
+    let name = c .before .before .before .before .before .before .before .before .before .before .before .before .before .before .before .before .before .before .name-at in
+    let link = c .before .before .before .before .before .before .before .before .before .before .before .before .before .before .before .name-at2 in
+    let forks = c .before .before .before .before .before .before .before .before .before .before .before .before .before .forking in
     let others = c .before .before .before .before .before .before .before .before .before .before .before .before .caught-in in
     let caught = c .before .before .before .before .before .before .before .before .before .before .with-acceptor in
     let learners = c .before .before .before .before .before .before .before .before .before .learners-of in
@@ -212,7 +212,7 @@ returns c =
     transport (λ i. Candidate t r y ps (idAt r (a .p)) (named r (at .result)) (sym (name .ensures) i) (sym (link .ensures) i)) (held-candidate r (r .held) (g .fit) (a .p) l (pre .1 .1) y names (at .result) ey ps eps) in
     let all : Told (graphOf r) (t ++ says (idAt r (a .p)) (sig .result) (named r (at .result)) ps ∷ []) (a .p) worked =
     told (graphOf r) t r x y ps kn (idAt r (a .p)) (sig .result) (named r (at .result)) (a .p) (length-tabulate (a .p) (recordAt r)) (omega arith) (ca .earlier)
-    (u .low) (u .high) (u .ballot) (u .offered) (c .before .before .before .before .before .before .before .before .before .before .before .before .before .before .before .before .before .before .before .before .before .before .under .ensures) (name .result) (link .result) ca
+    (u .low) (u .high) (u .ballot) (u .offered) (c .before .before .before .before .before .before .before .before .before .before .before .before .before .before .before .before .before .before .before .before .under .ensures) (name .result) (link .result) ca
     (forks .result .low) (forks .result .high) (others .result) (caught .result) (against .result) (free .result) (learned .result) (firsts .result) (seconds .result) (v .result) (c .form-of .result)
     (g .graphed .acceptors) (forks .ensures) (others .ensures)
     (λ q h. caught .ensures q h ∙ ap (λ (z : Bool). (z && eqb (sig .result) q) || has (others .result) q) (c .before .before .before .before .before .before .before .before .before .before .before .meet .ensures))

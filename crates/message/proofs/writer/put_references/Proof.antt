@@ -12,6 +12,7 @@ use native.Mathlib.Omega.{arith}
 use Rattle.message.proofs.writer.put_references.Statement.{statement}
 use Rattle.message.proofs.writer.put_references.Tie as tie
 
+-- the first i ids are written one behind the other, and no other byte is another
 abbrev Inv-loop : tie.InvT-loop
 Inv-loop buf₀ at ids places n i₀ buf i = (i ≤ n) × ((length buf ≡ length buf₀) × (buf ≡ putAt buf₀ at (gathered i ids places)))
 

@@ -11,6 +11,7 @@ use native.Mathlib.Omega.{arith}
 use Rattle.scan.proofs.beneath.is_crowded.Statement.{statement}
 use Rattle.scan.proofs.beneath.is_crowded.Tie as tie
 
+-- the rest of the walk begins at j, and it was found whether a place before j crowds
 abbrev Inv-loop : tie.InvT-loop
 Inv-loop s words octets n set name ballot found₀ rest₀ j₀ found rest j = Left n (rest₀ .low) (rest₀ .high) (rest .low) (rest .high) j
     × (found ≡ any (isCrowding (roundIn s) (wordNotes words) (byteNotes octets) (set .low) (set .high) name ballot) (below j))

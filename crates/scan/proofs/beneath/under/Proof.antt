@@ -20,6 +20,7 @@ use native.Mathlib.Omega.{arith}
 use Rattle.scan.proofs.beneath.under.Statement.{statement}
 use Rattle.scan.proofs.beneath.under.Tie as tie
 
+-- what was gathered lies beneath the first i of the places
 abbrev Inv-loop : tie.InvT-loop
 Inv-loop s words places low₀ high₀ ballot₀ offered₀ i₀ low high ballot offered i = (i ≤ length places) × Beneath (roundIn s) (wordNotes words) (take i places) low high ballot offered
 

@@ -18,6 +18,7 @@ use Rattle.scan.proofs.forks.caught_in.Statement.{statement}
 use Rattle.scan.proofs.forks.caught_in.Tie as tie
 use Rattle.graph.specs.Limits.{maskBits}
 
+-- the rest of the walk begins at j, and the mask has the signers of the caught places before j
 abbrev Inv-loop : tie.InvT-loop
 Inv-loop s words n set mask₀ rest₀ j₀ mask rest j = Left n (rest₀ .low) (rest₀ .high) (rest .low) (rest .high) j
     × ((p : ℕ) → p < maskBits → has mask p ≡ any (λ j. isCaught (wordNotes words) (set .low) (set .high) j && eqb (signerAt (roundIn s) j) p) (below j))

@@ -17,6 +17,7 @@ use Rattle.scan.proofs.forks.forking.Statement.{statement}
 use Rattle.scan.proofs.forks.forking.Tie as tie
 use Rattle.round.specs.Limits.{maxHeld}
 
+-- the rest of the walk begins at j, and the set has the places before j that fork
 abbrev Inv-loop : tie.InvT-loop
 Inv-loop s octets n signer name link found₀ rest₀ j₀ found rest j = Left n (rest₀ .low) (rest₀ .high) (rest .low) (rest .high) j
     × ((q : ℕ) → q < maxHeld → inSet (found .low) (found .high) q ≡ any (λ j. isFork (roundIn s) (byteNotes octets) signer name link j && eqb j q) (below j))

@@ -11,6 +11,7 @@ use native.Mathlib.Omega.{arith}
 use Rattle.scan.proofs.names.name_of.Statement.{statement}
 use Rattle.scan.proofs.names.name_of.Tie as tie
 
+-- the rest of the walk begins at i, and no place before i has the id
 abbrev Inv-loop : tie.InvT-loop
 Inv-loop s words n id rest₀ i₀ rest i = Left n (rest₀ .low) (rest₀ .high) (rest .low) (rest .high) i × Unnamed (roundIn s) id i
 

@@ -12,6 +12,7 @@ use native.Mathlib.Omega.{arith}
 use Rattle.scan.proofs.names.name_places.Statement.{statement}
 use Rattle.scan.proofs.names.name_places.Tie as tie
 
+-- the first i places have their names and are in the index of the ids
 abbrev Inv-loop : tie.InvT-loop
 Inv-loop s words₀ octets₀ n i₀ words octets i = (i ≤ n) × (Lent words octets × NamedAll (roundIn s) i (wordNotes words₀) (wordNotes words) (byteNotes octets₀) (byteNotes octets))
 
