@@ -22,7 +22,7 @@ use Rattle.round.specs.Round.{Round}
 use Rattle.round.specs.declared.Report.the-variants.{Undecided, Decided, Split}
 use Rattle.round.specs.Holdings.{graphOf, signerAt, isKnown}
 use Rattle.round.specs.Report.{told}
-use Rattle.notes.specs.Layout.{WordNotes, ByteNotes}
+use Rattle.notes.specs.Layout.{WordNotes, ByteNotes, secondForm}
 use Rattle.meaning.specs.Notes.{AllNoted}
 use Rattle.deciding.specs.Deciding.{isKnown2a, isVoter, votersFor, isDeciding, lowered, leastOf}
 
@@ -121,8 +121,8 @@ module _ (t : Table) (rn : Round) (wn : WordNotes) (bn : ByteNotes)
         let w : T (isKnown2a rn bn j) = and-l (isKnown2a rn bn j) (isQuorum G a (votersFor rn wn bn a (top j))) k in
         let q : T (isQuorum G a (votersFor rn wn bn a (top j))) = and-r (isKnown2a rn bn j) (isQuorum G a (votersFor rn wn bn a (top j))) k in
         let lt : j < length t = omega arith in
-        let two : T (is2aAt t j) = subst T (kn .noted j lt .second) (and-r (isKnown rn j) (eqb (getD (bn .forms) j 0) 2) w) in (
-          (subst T (decides-told (top j)) q, (j, filter-in (isKnown rn) (below-in n l) (and-l (isKnown rn j) (eqb (getD (bn .forms) j 0) 2) w), two, sym (kn .noted j lt .ballot))),
+        let two : T (is2aAt t j) = subst T (kn .noted j lt .second) (and-r (isKnown rn j) (eqb (getD (bn .forms) j 0) secondForm) w) in (
+          (subst T (decides-told (top j)) q, (j, filter-in (isKnown rn) (below-in n l) (and-l (isKnown rn j) (eqb (getD (bn .forms) j 0) secondForm) w), two, sym (kn .noted j lt .ballot))),
           λ z. neqb→ne (valueOf (top j)) v (imp-out other (not (eqb (valueOf (top j)) v)) o z),
         )
 
@@ -132,13 +132,13 @@ module _ (t : Table) (rn : Round) (wn : WordNotes) (bn : ByteNotes)
         let l : j < n = below-out n mb in
         let lt : j < length t = omega arith in
         let ex : top j ≡ x = kn .noted j lt .ballot ∙ e in
-        let f : T (eqb (getD (bn .forms) j 0) 2) = subst T (sym (kn .noted j lt .second)) two in
+        let f : T (eqb (getD (bn .forms) j 0) secondForm) = subst T (sym (kn .noted j lt .second)) two in
         let q : T (isQuorum G a (votersFor rn wn bn a (top j))) = subst T (sym (decides-told (top j))) (subst (λ (y : ℕ). T (decidesAt t G ks a y)) (sym ex) d) in
         let o : T (not other || not (eqb (valueOf (top j)) v)) = imp-in other (not (eqb (valueOf (top j)) v)) (λ z. ne→neqb (valueOf (top j)) v (λ y. ne z (ap valueOf (sym ex) ∙ y))) in (
           j,
           l,
           and-in (isKnown2a rn bn j && isQuorum G a (votersFor rn wn bn a (top j))) (not other || not (eqb (valueOf (top j)) v))
-              (and-in (isKnown2a rn bn j) (isQuorum G a (votersFor rn wn bn a (top j))) (and-in (isKnown rn j) (eqb (getD (bn .forms) j 0) 2) k f) q) o,
+              (and-in (isKnown2a rn bn j) (isQuorum G a (votersFor rn wn bn a (top j))) (and-in (isKnown rn j) (eqb (getD (bn .forms) j 0) secondForm) k f) q) o,
           ex,
         )
 

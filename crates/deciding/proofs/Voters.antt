@@ -15,7 +15,7 @@ use Rattle.places.proofs.Loops.{not-covered}
 use Rattle.places.proofs.Walks.{Passed}
 use Rattle.round.specs.Round.{Round}
 use Rattle.round.specs.Holdings.{graphOf, isKnown}
-use Rattle.notes.specs.Layout.{WordNotes, ByteNotes}
+use Rattle.notes.specs.Layout.{WordNotes, ByteNotes, secondForm}
 use Rattle.notes.specs.Index.{ballotKey, formKey, Filed, Marks}
 use Rattle.meaning.proofs.Walking.{filed}
 use Rattle.deciding.specs.Deciding.{isVoter, votersFor, isDeciding, lowered, leastOf}
@@ -25,24 +25,24 @@ module _ (rn : Round) (wn : WordNotes) (bn : ByteNotes) (few : rn .held ≤ maxH
   abbrev n : ℕ
   n = rn .held
 
-  pub covers-voters : (a x low high : ℕ) → ((q : ℕ) → q < maxHeld → Filed (wn .keylow) (wn .keyhigh) (formKey 2) q → Filed (wn .keylow) (wn .keyhigh) (ballotKey x) q → T (inSet low high q))
+  pub covers-voters : (a x low high : ℕ) → ((q : ℕ) → q < maxHeld → Filed (wn .keylow) (wn .keyhigh) (formKey secondForm) q → Filed (wn .keylow) (wn .keyhigh) (ballotKey x) q → T (inSet low high q))
       → Covers n (isVoter rn wn bn a x) low high
   covers-voters a x low high walk j h t =
       let A = isKnown rn j in
-      let B = eqb (getD (bn .forms) j 0) 2 in
+      let B = eqb (getD (bn .forms) j 0) secondForm in
       let C = eqb (getD (wn .tops) j 0) x in
       let w = and-l (A && B && C) (has (getD (bn .learners) j 0) a) t in
-      walk j (omega arith) (filed n formKey (bn .forms) (wn .keylow) (wn .keyhigh) 2 j (marks .byForm) h (and-r A B (and-l (A && B) C w)))
+      walk j (omega arith) (filed n formKey (bn .forms) (wn .keylow) (wn .keyhigh) secondForm j (marks .byForm) h (and-r A B (and-l (A && B) C w)))
       (filed n ballotKey (wn .tops) (wn .keylow) (wn .keyhigh) x j (marks .byBallot) h (and-r (A && B) C w))
 
-  pub covers-deciding : (a : ℕ) (other : Bool) (v low high : ℕ) → ((q : ℕ) → Filed (wn .keylow) (wn .keyhigh) (formKey 2) q → T (inSet low high q))
+  pub covers-deciding : (a : ℕ) (other : Bool) (v low high : ℕ) → ((q : ℕ) → Filed (wn .keylow) (wn .keyhigh) (formKey secondForm) q → T (inSet low high q))
       → Covers n (isDeciding rn wn bn a other v) low high
   covers-deciding a other v low high votes j h t =
       let A = isKnown rn j in
-      let B = eqb (getD (bn .forms) j 0) 2 in
+      let B = eqb (getD (bn .forms) j 0) secondForm in
       let C = isQuorum (graphOf rn) a (votersFor rn wn bn a (getD (wn .tops) j 0)) in
       let D = not other || not (eqb (valueOf (getD (wn .tops) j 0)) v) in
-      votes j (filed n formKey (bn .forms) (wn .keylow) (wn .keyhigh) 2 j (marks .byForm) h (and-r A B (and-l (A && B) C (and-l (A && B && C) D t))))
+      votes j (filed n formKey (bn .forms) (wn .keylow) (wn .keyhigh) secondForm j (marks .byForm) h (and-r A B (and-l (A && B) C (and-l (A && B && C) D t))))
 
 -- what fails from j to below r changes no least
 pub least-skip : (test : ℕ → Bool) (f : ℕ → ℕ) (j r : ℕ) → j ≤ r → ((q : ℕ) → j ≤ q → q < r → test q ≡ false) → leastOf test f j ≡ leastOf test f r

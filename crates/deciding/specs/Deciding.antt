@@ -9,12 +9,12 @@ use Rattle.base.specs.Ballots.{valueOf}
 use Rattle.graph.specs.LearnerGraph.{isQuorum}
 use Rattle.round.specs.Round.{Round}
 use Rattle.round.specs.Holdings.{graphOf, signerAt, isKnown}
-use Rattle.notes.specs.Layout.{WordNotes, ByteNotes}
+use Rattle.notes.specs.Layout.{secondForm, WordNotes, ByteNotes}
 use Rattle.deciding.specs.declared.Least.{Least}
 
 -- ---- place j holds a known 2a
 abbrev pub isKnown2a : Round → ByteNotes → ℕ → Bool
-isKnown2a r y j = isKnown r j && eqb (getD (y .forms) j 0) 2
+isKnown2a r y j = isKnown r j && eqb (getD (y .forms) j 0) secondForm
 
 -- ---- place j holds a known 2a of ballot z with a in its learners
 abbrev pub isVoter : Round → WordNotes → ByteNotes → ℕ → ℕ → ℕ → Bool

@@ -2,6 +2,7 @@
 use crate::Least;
 use base::value;
 use graph::Mask;
+use notes::SECOND;
 use notes::index::peers_of;
 use notes::index::votes_in;
 use notes::readers::form_at;
@@ -39,7 +40,7 @@ fn is_known_2a<'a>(s: &'a [u8], octets: &'a [u8], j: usize) -> bool
     requires { ⌜ (roundLen ≤ length (now s)) × ((length (now octets) ≡ octetsLen) × (j < maxHeld)) ⌝ }
     ensures { λ r. ⌜ r ≡ isKnown2a (roundIn (now (s .entry))) (byteNotes (now (octets .entry))) j ⌝ }
 {
-    (known_at(s, j) != 0) & (form_at(octets, j) == 2)
+    (known_at(s, j) != 0) & (form_at(octets, j) == SECOND)
 }
 
 // Whether place j holds a known 2a of ballot x with learner a.

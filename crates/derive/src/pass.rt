@@ -3,6 +3,7 @@ use base::size;
 use graph::Mask;
 use meaning::step::step;
 use message::layout::PROPOSAL;
+use notes::OFFER;
 use notes::Worked;
 use notes::readers::name_at;
 use notes::writers::file_place;
@@ -46,7 +47,7 @@ fn note_held<'a>(
             ballot: ballot_at(s, p),
             learners: 0,
             fresh: 0,
-            form: 0,
+            form: OFFER,
         };
     }
     let r = step(s, masks, words, octets, p);

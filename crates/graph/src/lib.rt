@@ -17,6 +17,8 @@ ghost use Rattle.graph.specs.Memory.{heldGraph, GraphSized};
 // A set of acceptors: bit p is acceptor p.
 pub type Mask = u32;
 
+pub const MASK_BITS: u8 = 32;
+
 pub const MAX_ACCEPTORS: usize = 16;
 
 pub const MAX_LEARNERS: usize = 8;
@@ -24,9 +26,9 @@ pub const MAX_LEARNERS: usize = 8;
 pub const MAX_MASKS: usize = 8;
 
 // A list for each learner and one for each pair of learners, each with room for MAX_MASKS masks.
-pub const LISTS: usize = 44;
+pub const LISTS: usize = MAX_LEARNERS + MAX_LEARNERS * (MAX_LEARNERS + 1) / 2;
 
-pub const PLACES: usize = 352;
+pub const MASK_SLOTS: usize = MAX_MASKS * LISTS;
 
 // A graph in memory. List k has counts[k] masks, from masks[MAX_MASKS * k] on: list a is learner a's quorums, and `pair_list(a, b)` the safe
 // list of the pair a-b. What is not used is 0.
@@ -34,7 +36,7 @@ pub struct Graph {
     pub acceptors: u8,
     pub learners: u8,
     pub counts: [u8; LISTS],
-    pub masks: [Mask; PLACES],
+    pub masks: [Mask; MASK_SLOTS],
 }
 
 pub enum Answer {

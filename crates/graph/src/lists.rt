@@ -1,6 +1,7 @@
 // The lists of masks of a graph. Sets are masks, joined, met and compared.
 // These serve this crate and those above it, and ask for learners and lists in range and for arrays of a graph's length: whoever calls them holds a graph
 // that was read, or a round that passed row 17, and has no answer to give a second test.
+use crate::MASK_BITS;
 use crate::MAX_LEARNERS;
 use crate::MAX_MASKS;
 use crate::Mask;
@@ -11,15 +12,19 @@ ghost use lib.ListN.{length, getD};
 ghost use lib.Seq.{slice};
 ghost use Rattle.base.specs.Tests.{any};
 ghost use Rattle.base.specs.Sets.{has, contains, apart};
-ghost use Rattle.graph.specs.Limits.{lists, maxLearners, maxMasks};
+ghost use Rattle.graph.specs.Limits.{lists, maxLearners, maxMasks, maskBits};
 ghost use Rattle.graph.specs.LearnerGraph.{isQuorum, safeWithout};
 ghost use Rattle.graph.specs.Memory.{within, triangle, listOf, pairList, heldGraph, GraphSized};
 
 // All acceptors below n. A shift by the width of a mask has no meaning, so that width is a case of its own.
 pub fn known(n: u8) -> Mask
-    ensures { λ r. ⌜ r ≡ 2 ^ min n 32 - 1 ⌝ }
+    ensures { λ r. ⌜ r ≡ 2 ^ min n maskBits - 1 ⌝ }
 {
-    if n < 32 { (1u32 << n) - 1 } else { 4294967295 }
+    if n < MASK_BITS {
+        (1u32 << n) - 1
+    } else {
+        4294967295
+    }
 }
 
 // Whether the set contains the mask.

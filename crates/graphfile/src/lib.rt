@@ -9,10 +9,10 @@ use file::read_lists;
 use graph::Answer;
 use graph::Graph;
 use graph::LISTS;
+use graph::MASK_SLOTS;
 use graph::MAX_ACCEPTORS;
 use graph::MAX_LEARNERS;
 use graph::MAX_MASKS;
-use graph::PLACES;
 use graph::graph_answer;
 use writer::counts_fit;
 use writer::masks_fit;
@@ -64,7 +64,7 @@ fn refused(r: Refusal) -> Reading
     ensures { λ x. ⌜ x ≡ refusedReading (Answer.Refused r) ⌝ }
 {
     let counts = [0u8; LISTS];
-    let masks = [0u32; PLACES];
+    let masks = [0u32; MASK_SLOTS];
     let graph = Graph {
         acceptors: 0,
         learners: 0,
@@ -107,7 +107,7 @@ fn held(file: &[u8], acceptors: u8, learners: u8) -> Reading
 {
     let l = size(learners);
     let mut counts = [0u8; LISTS];
-    let mut masks = [0u32; PLACES];
+    let mut masks = [0u32; MASK_SLOTS];
     if let Field::Refused(r) = read_lists(file, acceptors, l, &mut counts, &mut masks) {
         return refused(r);
     }

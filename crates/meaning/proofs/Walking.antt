@@ -20,7 +20,7 @@ use Rattle.notes.specs.declared.Worked.{Worked}
 use Rattle.notes.specs.Writing.{wordsNoted, bytesNoted, withIndex}
 use Rattle.round.specs.Round.{Round}
 use Rattle.round.specs.Holdings.{isProposalAt, signerAt}
-use Rattle.notes.specs.Layout.{WordNotes, ByteNotes}
+use Rattle.notes.specs.Layout.{WordNotes, ByteNotes, firstForm, secondForm}
 use Rattle.notes.specs.Index.{signerKey, linkKey, ballotKey, formKey, Filed, Marks, Marked, Put, Backing, Walked, linkAt}
 use Rattle.round.specs.Limits.{maxHeld}
 
@@ -52,29 +52,29 @@ module _ (n : ℕ) (rn : Round) (wn : WordNotes) (bn : ByteNotes) (few : n ≤ m
       pub covers-votes : Covers n (isVote bn low high b) (r .votes .low) (r .votes .high)
       covers-votes j h t =
           let A = inSet low high j in
-          let B = eqb (getD (bn .forms) j 0) 2 in
+          let B = eqb (getD (bn .forms) j 0) secondForm in
           let v = and-l (A && B) (has (getD (bn .learners) j 0) b) t in
-          walked .voting j (omega arith) (and-l A B v) (filed n formKey (bn .forms) (wn .keylow) (wn .keyhigh) 2 j (marks .byForm) h (and-r A B v))
+          walked .voting j (omega arith) (and-l A B v) (filed n formKey (bn .forms) (wn .keylow) (wn .keyhigh) secondForm j (marks .byForm) h (and-r A B v))
 
       pub covers-rivals : (v : ℕ) → Covers n (isRival rn wn bn low high signer v b) (r .rivals .low) (r .rivals .high)
       covers-rivals v j h t =
           let A = inSet low high j in
-          let B = eqb (getD (bn .forms) j 0) 2 in
+          let B = eqb (getD (bn .forms) j 0) secondForm in
           let E = isVote bn low high b j in
           let D = eqb (getD (rn .signers) j 0) signer in
           let w = and-l (E && D) (not (eqb (valueOf (getD (wn .tops) j 0)) v)) t in
           let x = and-l (A && B) (has (getD (bn .learners) j 0) b) (and-l E D w) in
-          walked .rivalling j (omega arith) (and-l A B x) (filed n formKey (bn .forms) (wn .keylow) (wn .keyhigh) 2 j (marks .byForm) h (and-r A B x))
+          walked .rivalling j (omega arith) (and-l A B x) (filed n formKey (bn .forms) (wn .keylow) (wn .keyhigh) secondForm j (marks .byForm) h (and-r A B x))
           (filed n signerKey (rn .signers) (wn .keylow) (wn .keyhigh) signer j (marks .bySigner) h (and-r E D w))
 
   pub covers-backers : (low high ballot x y : ℕ) → Backing wn low high ballot x y → (a : ℕ) → Covers n (isBacker wn bn low high a ballot) x y
   covers-backers low high ballot x y backing a j h t =
       let A = inSet low high j in
-      let B = eqb (getD (bn .forms) j 0) 1 in
+      let B = eqb (getD (bn .forms) j 0) firstForm in
       let C = has (getD (bn .fresh) j 0) a in
       let D = eqb (getD (wn .tops) j 0) ballot in
       let w = and-l (A && B) C (and-l (A && B && C) D t) in
-      backing j (omega arith) (and-l A B w) (filed n formKey (bn .forms) (wn .keylow) (wn .keyhigh) 1 j (marks .byForm) h (and-r A B w))
+      backing j (omega arith) (and-l A B w) (filed n formKey (bn .forms) (wn .keylow) (wn .keyhigh) firstForm j (marks .byForm) h (and-r A B w))
       (filed n ballotKey (wn .tops) (wn .keylow) (wn .keyhigh) ballot j (marks .byBallot) h (and-r (A && B && C) D t))
 
   -- a walk over those of a set that have a ballot

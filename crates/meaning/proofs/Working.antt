@@ -39,7 +39,7 @@ use Rattle.meaning.proofs.Reaching as reaching
 use Rattle.meaning.proofs.Reaching.{is-true, Reached, reached-of}
 use Rattle.round.specs.Round.{Round}
 use Rattle.round.specs.Holdings.{isProposalAt}
-use Rattle.notes.specs.Layout.{WordNotes, ByteNotes}
+use Rattle.notes.specs.Layout.{WordNotes, ByteNotes, firstForm, secondForm}
 use Rattle.round.specs.Limits.{maxHeld}
 use Rattle.graph.specs.Limits.{maskBits}
 
@@ -146,10 +146,10 @@ module _ (G : LearnerGraph) (t : Table) (rn : Round) (wn : WordNotes) (bn : Byte
     top-is : getD (wn .tops) j 0 ≡ ballotAt u j
     top-is = reaching.top-is t rn wn ps rd id sig prev n size small back j l
 
-    first-is : eqb (getD (bn .forms) j 0) 1 ≡ is1bAt u j
+    first-is : eqb (getD (bn .forms) j 0) firstForm ≡ is1bAt u j
     first-is = kn .noted j (omega arith) .first ∙ ap is1b (sym old)
 
-    second-is : eqb (getD (bn .forms) j 0) 2 ≡ is2aAt u j
+    second-is : eqb (getD (bn .forms) j 0) secondForm ≡ is2aAt u j
     second-is = kn .noted j (omega arith) .second ∙ ap is2a (sym old)
 
     learning-is : (a : ℕ) → a < G .learners → has (getD (bn .learners) j 0) a ≡ lrnsAt u G j a

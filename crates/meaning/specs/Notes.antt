@@ -19,7 +19,7 @@ use Rattle.places.specs.PlaceSets.{inSet}
 use Rattle.round.specs.Round.{Round}
 use Rattle.round.specs.Holdings.{isProposalAt, signerAt}
 use Rattle.notes.specs.declared.Worked.{Worked}
-use Rattle.notes.specs.Layout.{WordNotes, ByteNotes}
+use Rattle.notes.specs.Layout.{firstForm, secondForm, WordNotes, ByteNotes}
 use Rattle.notes.specs.Index.{linkAt}
 use Rattle.meaning.specs.declared.Note.{Note}
 use Rattle.round.specs.Limits.{maxHeld}
@@ -34,9 +34,9 @@ pub record Noted (G : LearnerGraph) (t : Table) (i low high forkLow forkHigh top
   -- its ballot
   pub ballot : top ≡ ballotAt t i
   -- whether it is a 1b
-  pub first : eqb form 1 ≡ is1bAt t i
+  pub first : eqb form firstForm ≡ is1bAt t i
   -- or a 2a
-  pub second : eqb form 2 ≡ is2aAt t i
+  pub second : eqb form secondForm ≡ is2aAt t i
   -- its learners
   pub learning : (a : ℕ) → a < G .learners → has learners a ≡ lrnsAt t G i a
   -- those that it is fresh for, if it is a 1b
@@ -75,9 +75,9 @@ pub record Told (G : LearnerGraph) (t : Table) (i : ℕ) (r : Worked) : Type 0 w
   -- its ballot
   pub ballot : r .ballot ≡ ballotAt t i
   -- whether it is a 1b
-  pub first : eqb (r .form) 1 ≡ is1bAt t i
+  pub first : eqb (r .form) firstForm ≡ is1bAt t i
   -- or a 2a
-  pub second : eqb (r .form) 2 ≡ is2aAt t i
+  pub second : eqb (r .form) secondForm ≡ is2aAt t i
   -- its learners,
   pub learning : (a : ℕ) → a < G .learners → has (r .learners) a ≡ lrnsAt t G i a
   -- all of the graph

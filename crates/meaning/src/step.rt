@@ -2,6 +2,8 @@
 use base::size;
 use base::value;
 use graph::Mask;
+use notes::FIRST;
+use notes::SECOND;
 use notes::Worked;
 use notes::index::walks_for;
 use notes::readers::name_at;
@@ -26,7 +28,7 @@ ghost use Prim.Native.Nat.{suc, _≤_, _<_};
 ghost use Rattle.base.specs.Tests.{pick};
 ghost use Rattle.round.specs.Holdings.{graphOf, isProposalAt};
 ghost use Rattle.roundbytes.specs.Layout.{roundIn};
-ghost use Rattle.notes.specs.Layout.{wordNotes, byteNotes};
+ghost use Rattle.notes.specs.Layout.{firstForm, secondForm, wordNotes, byteNotes};
 ghost use Rattle.scan.specs.Arrays.{Named};
 ghost use Rattle.meaning.specs.Records.{tableTo};
 ghost use Rattle.meaning.specs.Notes.{AllNoted, Told};
@@ -39,11 +41,11 @@ fn count_if(on: bool, l: usize) -> usize
     if on { l } else { 0 }
 }
 
-// 1 for a 1b, 2 for a 2a.
+// That of a 1b, or of a 2a.
 fn form_of(offered: bool) -> u8
-    ensures { λ r. ⌜ r ≡ pick offered 1 2 ⌝ }
+    ensures { λ r. ⌜ r ≡ pick offered firstForm secondForm ⌝ }
 {
-    if offered { 1 } else { 2 }
+    if offered { FIRST } else { SECOND }
 }
 
 // The acceptor message at place p. Its own place is left out of those that it reaches.

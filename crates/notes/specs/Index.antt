@@ -1,30 +1,30 @@
 -- The index of the places: a set for each key that a message can be looked for by. Places with other signers, links or ballots may fall into one
 -- set: a set only spares the walk over all places, and each place of it is still asked.
 use mathlib.Core.List.{List}
-use Prim.Native.Nat.{ℕ, _+_, _/_, _%_, _<_}
+use Prim.Native.Nat.{ℕ, _+_, _/_, _%_, _^_, _<_}
 use lib.Dec.{T}
 use lib.ListN.{getD}
 use Rattle.places.specs.PlaceSets.{inSet, Indexed, Grown}
 use Rattle.round.specs.Round.{Round}
 use Rattle.notes.specs.declared.Walks.{Walks}
-use Rattle.notes.specs.Layout.{WordNotes, ByteNotes}
+use Rattle.notes.specs.Layout.{signerKeys, linkKeys, ballotKeys, formKeys, linkKeysAt, ballotKeysAt, formKeysAt, firstForm, secondForm, WordNotes, ByteNotes}
 use Rattle.round.specs.Limits.{maxHeld}
 
 -- ---- the key of a signer
 abbrev pub signerKey : ℕ → ℕ
-signerKey s = s % 32
+signerKey s = s % signerKeys
 
 -- of a link, the name of the previous message, or none
 abbrev pub linkKey : ℕ → ℕ
-linkKey x = 32 + x % 16
+linkKey x = linkKeysAt + x % linkKeys
 
 -- of a ballot, by its upper half
 abbrev pub ballotKey : ℕ → ℕ
-ballotKey x = 48 + x / 4294967296 % 16
+ballotKey x = ballotKeysAt + x / 2 ^ 32 % ballotKeys
 
 -- of a form
 abbrev pub formKey : ℕ → ℕ
-formKey f = 64 + f % 4
+formKey f = formKeysAt + f % formKeys
 
 -- place j is in the set of a key
 abbrev pub Filed : List ℕ → List ℕ → ℕ → ℕ → Type 0
@@ -67,7 +67,7 @@ pub record Put (keyLow keyHigh keyLow′ keyHigh′ : List ℕ) (signer link bal
 -- ---- a set has each place of (low, high) that is filed as a 1b and under the ballot
 abbrev pub Backing : WordNotes → ℕ → ℕ → ℕ → ℕ → ℕ → Type 0
 Backing x low high ballot setLow setHigh =
-    (q : ℕ) → q < maxHeld → T (inSet low high q) → Filed (x .keylow) (x .keyhigh) (formKey 1) q → Filed (x .keylow) (x .keyhigh) (ballotKey ballot) q
+    (q : ℕ) → q < maxHeld → T (inSet low high q) → Filed (x .keylow) (x .keyhigh) (formKey firstForm) q → Filed (x .keylow) (x .keyhigh) (ballotKey ballot) q
     → T (inSet setLow setHigh q)
 
 -- ---- the places that are asked for a message which reaches the set (low, high), has this ballot, signer and link
@@ -77,8 +77,8 @@ pub record Walked (x : WordNotes) (low high ballot signer link : ℕ) (r : Walks
   -- those that it reaches and that fork with one before them
   pub catching : (q : ℕ) → q < maxHeld → T (inSet low high q) → T (inSet (x .forkedlow) (x .forkedhigh) q) → T (inSet (r .caught .low) (r .caught .high) q)
   -- the 2as that it reaches
-  pub voting : (q : ℕ) → q < maxHeld → T (inSet low high q) → Filed (x .keylow) (x .keyhigh) (formKey 2) q → T (inSet (r .votes .low) (r .votes .high) q)
+  pub voting : (q : ℕ) → q < maxHeld → T (inSet low high q) → Filed (x .keylow) (x .keyhigh) (formKey secondForm) q → T (inSet (r .votes .low) (r .votes .high) q)
   -- those of them that are of its signer
-  pub rivalling : (q : ℕ) → q < maxHeld → T (inSet low high q) → Filed (x .keylow) (x .keyhigh) (formKey 2) q → Filed (x .keylow) (x .keyhigh) (signerKey signer) q → T (inSet (r .rivals .low) (r .rivals .high) q)
+  pub rivalling : (q : ℕ) → q < maxHeld → T (inSet low high q) → Filed (x .keylow) (x .keyhigh) (formKey secondForm) q → Filed (x .keylow) (x .keyhigh) (signerKey signer) q → T (inSet (r .rivals .low) (r .rivals .high) q)
   -- the 1bs of its ballot that it reaches
   pub backing : Backing x low high ballot (r .backers .low) (r .backers .high)

@@ -6,12 +6,44 @@ use lib.ListN.{length, getD}
 use Rattle.base.specs.Bytes.{part}
 use Rattle.round.specs.Limits.{maxHeld, noPlace}
 
--- ---- how many keys there are: of the ids, and of the places (specs/Index)
+-- ---- how many keys ids have
 abbrev pub idKeys : ℕ
 idKeys = 32
 
+-- the keys of the places (specs/Index), one kind behind the other: of signers, of links, of ballots and of forms
+abbrev pub signerKeys : ℕ
+signerKeys = 32
+
+abbrev pub linkKeys : ℕ
+linkKeys = 16
+
+abbrev pub ballotKeys : ℕ
+ballotKeys = 16
+
+abbrev pub formKeys : ℕ
+formKeys = 4
+
+abbrev pub linkKeysAt : ℕ
+linkKeysAt = signerKeys
+
+abbrev pub ballotKeysAt : ℕ
+ballotKeysAt = linkKeysAt + linkKeys
+
+abbrev pub formKeysAt : ℕ
+formKeysAt = ballotKeysAt + ballotKeys
+
 abbrev pub keys : ℕ
-keys = 68
+keys = formKeysAt + formKeys
+
+-- ---- the form of a message: a proposal, a 1b or a 2a
+abbrev pub offerForm : ℕ
+offerForm = 0
+
+abbrev pub firstForm : ℕ
+firstForm = 1
+
+abbrev pub secondForm : ℕ
+secondForm = 2
 
 -- ---- in words, for each place: the places that it reaches and those before it that fork with it, each set as two words, and its ballot. Then
 -- the places by the keys of their ids and by their own keys, and the places that fork with one before them.

@@ -1,5 +1,14 @@
 // The index of the places: for each key a set, so that a question is asked of few places.
+use crate::BALLOT_KEYS;
+use crate::BALLOT_KEYS_AT;
+use crate::FIRST;
+use crate::FORM_KEYS;
+use crate::FORM_KEYS_AT;
 use crate::KEYS;
+use crate::LINK_KEYS;
+use crate::LINK_KEYS_AT;
+use crate::SECOND;
+use crate::SIGNER_KEYS;
 use crate::Walks;
 use crate::readers::forked_in;
 use crate::readers::key_set;
@@ -14,37 +23,37 @@ ghost use lib.Dec.{T};
 ghost use lib.ListN.{length, getD};
 ghost use Rattle.base.specs.Bytes.{part};
 ghost use Rattle.places.specs.PlaceSets.{inSet};
-ghost use Rattle.notes.specs.Layout.{keys, wordsLen, wordNotes};
+ghost use Rattle.notes.specs.Layout.{keys, secondForm, wordsLen, wordNotes};
 ghost use Rattle.notes.specs.Index.{signerKey, linkKey, ballotKey, formKey, Filed, Put, Backing, Walked};
 ghost use Rattle.round.specs.Limits.{maxHeld};
 
 // The keys of 1bs and of 2as.
-const FIRSTS: usize = 65;
+const FIRSTS: usize = FORM_KEYS_AT + FIRST as usize;
 
-const SECONDS: usize = 66;
+const SECONDS: usize = FORM_KEYS_AT + SECOND as usize;
 
 fn signer_key(signer: u8) -> usize
     ensures { λ r. ⌜ r ≡ signerKey signer ⌝ }
 {
-    size(signer) % 32
+    size(signer) % SIGNER_KEYS
 }
 
 fn link_key(link: u8) -> usize
     ensures { λ r. ⌜ r ≡ linkKey link ⌝ }
 {
-    32 + size(link) % 16
+    LINK_KEYS_AT + size(link) % LINK_KEYS
 }
 
 fn ballot_key(ballot: u64) -> usize
     ensures { λ r. ⌜ r ≡ ballotKey ballot ⌝ }
 {
-    48 + ((ballot >> 32) % 16) as usize
+    BALLOT_KEYS_AT + (ballot >> 32) as usize % BALLOT_KEYS
 }
 
 fn form_key(form: u8) -> usize
     ensures { λ r. ⌜ r ≡ formKey form ⌝ }
 {
-    64 + size(form) % 4
+    FORM_KEYS_AT + size(form) % FORM_KEYS
 }
 
 // Those of a set that are in the set of key k.
@@ -76,7 +85,7 @@ pub fn backers_of(words: &[u64], set: Places, ballot: u64) -> Places
 // The places of 2as, and perhaps others.
 pub fn votes_in(words: &[u64]) -> Places
     requires { ⌜ length (now words) ≡ wordsLen ⌝ }
-    ensures { λ r. ⌜ ((q : ℕ) → Filed (wordNotes (now (words .entry)) .keylow) (wordNotes (now (words .entry)) .keyhigh) (formKey 2) q → T (inSet (r .low) (r .high) q)) ⌝ }
+    ensures { λ r. ⌜ ((q : ℕ) → Filed (wordNotes (now (words .entry)) .keylow) (wordNotes (now (words .entry)) .keyhigh) (formKey secondForm) q → T (inSet (r .low) (r .high) q)) ⌝ }
 {
     key_set(words, SECONDS)
 }

@@ -8,10 +8,32 @@ pub mod index;
 pub mod readers;
 pub mod writers;
 
-// How many keys ids have, and places.
+// How many keys ids have.
 pub const ID_KEYS: usize = 32;
 
-pub const KEYS: usize = 68;
+// The keys of the places, one kind behind the other: of signers, of links, of ballots and of forms.
+pub const SIGNER_KEYS: usize = 32;
+
+pub const LINK_KEYS: usize = 16;
+
+pub const BALLOT_KEYS: usize = 16;
+
+pub const FORM_KEYS: usize = 4;
+
+pub const LINK_KEYS_AT: usize = SIGNER_KEYS;
+
+pub const BALLOT_KEYS_AT: usize = LINK_KEYS_AT + LINK_KEYS;
+
+pub const FORM_KEYS_AT: usize = BALLOT_KEYS_AT + BALLOT_KEYS;
+
+pub const KEYS: usize = FORM_KEYS_AT + FORM_KEYS;
+
+// The form of a message: a proposal, a 1b or a 2a.
+pub const OFFER: u8 = 0;
+
+pub const FIRST: u8 = 1;
+
+pub const SECOND: u8 = 2;
 
 // In the words, from 0 on: the places that each place reaches, itself among them, as the low words of these sets and then the high ones.
 pub const HIGH_AT: usize = MAX_HELD;
@@ -60,7 +82,7 @@ pub struct Worked {
     // The learners of a 2a, and those that a 1b is fresh for.
     pub learners: u8,
     pub fresh: u8,
-    // 0: a proposal; 1: a 1b; 2: a 2a.
+    // OFFER, FIRST or SECOND.
     pub form: u8,
 }
 

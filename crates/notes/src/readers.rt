@@ -43,7 +43,7 @@ pub fn fresh_at(octets: &[u8], p: usize) -> u8
     octets[FRESH_AT + p]
 }
 
-// 0: a proposal; 1: a 1b; 2: a 2a.
+// OFFER, FIRST or SECOND.
 pub fn form_at(octets: &[u8], p: usize) -> u8
     requires { ⌜ (length (now octets) ≡ octetsLen) × (p < maxHeld) ⌝ }
     ensures { λ r. ⌜ r ≡ getD (byteNotes (now (octets .entry)) .forms) p 0 ⌝ }

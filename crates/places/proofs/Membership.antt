@@ -15,6 +15,8 @@ use Rattle.base.proofs.Tests.{same-test, not-true, eq→eqb, neqb→ne, and-in,
 use Rattle.base.proofs.Bits.{one-shl, some-bit}
 use Rattle.base.proofs.Sets.{has-or, has-and, has-one, has-below}
 use Rattle.places.specs.PlaceSets.{inSet, meets}
+use Rattle.round.specs.Limits.{maxHeld}
+use Rattle.graph.specs.Limits.{maskBits}
 
 pub other : {t : Bool} → t ≡ true → t ≡ false → ⊥
 other p q = let z : _≡_ {A = ℕ} 0 1 = cc in omega arith
@@ -86,7 +88,7 @@ with-low low high j q h = step (decLt q 64)
         in-high (bitOr low (1 * 2 ^ j % 2 ^ 64)) high q (omega arith) ∙ sym (in-high low high q (omega arith))
         ∙ sym (ap (λ (b : Bool). b || inSet low high q) (ne-eqb j q (λ e. omega arith)))
 
-pub with-high : (low high j q : ℕ) → 64 ≤ j → j < 128 → inSet low (bitOr high (1 * 2 ^ (j - 64) % 2 ^ 64)) q ≡ (eqb j q || inSet low high q)
+pub with-high : (low high j q : ℕ) → 64 ≤ j → j < maxHeld → inSet low (bitOr high (1 * 2 ^ (j - 64) % 2 ^ 64)) q ≡ (eqb j q || inSet low high q)
 with-high low high j q g h = step (decLt q 64)
   where
     step : Dec (q < 64) → inSet low (bitOr high (1 * 2 ^ (j - 64) % 2 ^ 64)) q ≡ (eqb j q || inSet low high q)
@@ -130,21 +132,21 @@ meet-is a b c d ha hb = same-test _ _ to from
     f : ℕ → Bool
     f j = inSet a b j && inSet c d j
 
-    to : T (not (eqb (bitAnd a c) 0) || not (eqb (bitAnd b d) 0)) → T (any f (below 128))
+    to : T (not (eqb (bitAnd a c) 0) || not (eqb (bitAnd b d) 0)) → T (any f (below maxHeld))
     to t = step (or-out (not (eqb (bitAnd a c) 0)) (not (eqb (bitAnd b d) 0)) t)
       where
-        step : T (not (eqb (bitAnd a c) 0)) ⊎ T (not (eqb (bitAnd b d) 0)) → T (any f (below 128))
+        step : T (not (eqb (bitAnd a c) 0)) ⊎ T (not (eqb (bitAnd b d) 0)) → T (any f (below maxHeld))
         step (inl u) =
             let (i, l, k) = common a c ha u in
-            any-in f {x = i} (below-in 128 (omega arith)) (subst T (sym (ap₂ _&&_ (in-low a b i l) (in-low c d i l))) k)
+            any-in f {x = i} (below-in maxHeld (omega arith)) (subst T (sym (ap₂ _&&_ (in-low a b i l) (in-low c d i l))) k)
         step (inr u) =
             let (i, l, k) = common b d hb u in
             let e : 64 + i - 64 ≡ i = omega arith in
-            any-in f {x = 64 + i} (below-in 128 (omega arith))
+            any-in f {x = 64 + i} (below-in maxHeld (omega arith))
             (subst T (sym (ap₂ _&&_ (in-high a b (64 + i) (omega arith) ∙ ap (has b) e) (in-high c d (64 + i) (omega arith) ∙ ap (has d) e))) k)
 
-    from : T (any f (below 128)) → T (not (eqb (bitAnd a c) 0) || not (eqb (bitAnd b d) 0))
-    from t = let (j, m, k) = any-out f (below 128) t in step j k (decLt j 64)
+    from : T (any f (below maxHeld)) → T (not (eqb (bitAnd a c) 0) || not (eqb (bitAnd b d) 0))
+    from t = let (j, m, k) = any-out f (below maxHeld) t in step j k (decLt j 64)
       where
         step : (j : ℕ) → T (f j) → Dec (j < 64) → T (not (eqb (bitAnd a c) 0) || not (eqb (bitAnd b d) 0))
         step j k (yes l) = or-l (not (eqb (bitAnd a c) 0)) (not (eqb (bitAnd b d) 0)) (sharing a c j (subst T (ap₂ _&&_ (in-low a b j l) (in-low c d j l)) k))
@@ -159,8 +161,8 @@ both false true e = (e, refl)
 both false false e = (e, e)
 
 -- what is not put in where the test fails, or where the number is past the mask
-pub not-put : (on m : Bool) (p q : ℕ) → (on && ltb p 32) ≡ false → q < 32 → m ≡ ((on && eqb p q) || m)
-not-put true m p q h l = sym (ap (λ (b : Bool). b || m) (ne-eqb p q (λ e. let g = ltb-false p 32 h in omega arith)))
+pub not-put : (on m : Bool) (p q : ℕ) → (on && ltb p maskBits) ≡ false → q < maskBits → m ≡ ((on && eqb p q) || m)
+not-put true m p q h l = sym (ap (λ (b : Bool). b || m) (ne-eqb p q (λ e. let g = ltb-false p maskBits h in omega arith)))
 not-put false m p q h l = refl
 
 -- what two sets have, their common part has

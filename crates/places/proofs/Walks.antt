@@ -15,6 +15,7 @@ use Rattle.base.proofs.Bits.{bit, bit-suc, some-bit}
 use Rattle.base.proofs.Sets.{has-and, has-below}
 use Rattle.places.specs.PlaceSets.{inSet, NoneBelow, First, Dropped}
 use Rattle.places.proofs.Membership.{has-zero, in-low, in-high, in-zero, and-on, and-off}
+use Rattle.round.specs.Limits.{maxHeld}
 
 -- ---- one word: its lowest bit that is set, and the bits below it
 none-trailing : (k x i : ℕ) → i < trailingZeros k x → bit x i ≡ 0
@@ -110,7 +111,7 @@ module _ (n low high r : ℕ) where
           let t : T (has low r) = subst (λ (y : ℕ). T (has low y)) d (trailed low h some) in
           subst T (sym (in-low low high r (has-below 64 low r h t))) t
 
-  pub first-high : high < 2 ^ 64 → n ≤ 128 → low ≡ 0 → r ≡ min (trailingZeros 64 high + 64) n → First n low high r
+  pub first-high : high < 2 ^ 64 → n ≤ maxHeld → low ≡ 0 → r ≡ min (trailingZeros 64 high + 64) n → First n low high r
   first-high h few z e = record { bound = omega arith; none = λ q l. none q l (decLt q 64); member = member }
     where
       none : (q : ℕ) → q < r → Dec (q < 64) → inSet low high q ≡ false

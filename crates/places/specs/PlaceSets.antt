@@ -7,13 +7,14 @@ use lib.Dec.{T, eqb, ltb}
 use lib.ListN.{length, getD}
 use Rattle.base.specs.Tests.{pick, any, below}
 use Rattle.base.specs.Sets.{has}
+use Rattle.round.specs.Limits.{maxHeld}
 
 unfoldable pub inSet : ℕ → ℕ → ℕ → Bool
 inSet low high j = pick (ltb j 64) (has low j) (has high (j - 64))
 
 -- two sets have a place in common
 unfoldable pub meets : ℕ → ℕ → ℕ → ℕ → Bool
-meets low high low′ high′ = any (λ j. inSet low high j && inSet low′ high′ j) (below 128)
+meets low high low′ high′ = any (λ j. inSet low high j && inSet low′ high′ j) (below maxHeld)
 
 -- no place below r is in the set
 abbrev pub NoneBelow : ℕ → ℕ → ℕ → Type 0
@@ -32,7 +33,7 @@ Dropped low high low′ high′ = (f : ℕ) → T (inSet low high f) → NoneBel
 -- ---- arrays over the places
 -- an array with an entry for each place
 abbrev pub Column : List ℕ → Type 0
-Column l = length l ≡ 128
+Column l = length l ≡ maxHeld
 
 -- the set has each of the first n places that passes the test
 abbrev pub Covers : ℕ → (ℕ → Bool) → ℕ → ℕ → Type 0
@@ -44,4 +45,4 @@ Indexed n key low high = (j : ℕ) → j < n → T (inSet (getD low (key j) 0) (
 
 -- no set of an index has lost a place
 abbrev pub Grown : List ℕ → List ℕ → List ℕ → List ℕ → Type 0
-Grown low high low′ high′ = (i q : ℕ) → q < 128 → T (inSet (getD low i 0) (getD high i 0) q) → T (inSet (getD low′ i 0) (getD high′ i 0) q)
+Grown low high low′ high′ = (i q : ℕ) → q < maxHeld → T (inSet (getD low i 0) (getD high i 0) q) → T (inSet (getD low′ i 0) (getD high′ i 0) q)

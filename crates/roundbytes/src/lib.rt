@@ -6,7 +6,7 @@ use base::put32;
 use base::read32;
 use graph::Graph;
 use graph::LISTS;
-use graph::PLACES;
+use graph::MASK_SLOTS;
 use message::layout::ID_LEN;
 use round::MAX_HELD;
 use round::NO_PLACE;
@@ -32,7 +32,7 @@ pub const LIST_COUNTS_AT: usize = 2;
 
 pub const MASKS_AT: usize = LIST_COUNTS_AT + LISTS;
 
-pub const HOUSE_AT: usize = MASKS_AT + 4 * PLACES;
+pub const HOUSE_AT: usize = MASKS_AT + 4 * MASK_SLOTS;
 
 pub const BAY_AT: usize = HOUSE_AT + 2;
 
@@ -64,13 +64,13 @@ pub const RECENT_AT: usize = KNOWN_AT + MAX_HELD;
 pub const ROUND_LEN: usize = RECENT_AT + MAX_HELD;
 
 // ---- arrays read
-pub fn masks_in(s: &[u8]) -> [u32; PLACES]
+pub fn masks_in(s: &[u8]) -> [u32; MASK_SLOTS]
     requires { ⌜ houseAt ≤ length (now s) ⌝ }
     ensures { λ r. ⌜ r ≡ numbers 4 (maxMasks * lists) (now (s .entry)) masksAt ⌝ }
 {
-    let mut out = [0u32; PLACES];
+    let mut out = [0u32; MASK_SLOTS];
     let mut i: usize = 0;
-    while i < PLACES {
+    while i < MASK_SLOTS {
         out[i] = read32(s, MASKS_AT + 4 * i);
         i += 1;
     }

@@ -10,12 +10,12 @@ use Rattle.base.specs.Ballots.{valueOf}
 use Rattle.places.specs.PlaceSets.{inSet}
 use Rattle.round.specs.Round.{Round}
 use Rattle.round.specs.Holdings.{signerAt}
-use Rattle.notes.specs.Layout.{WordNotes, ByteNotes}
+use Rattle.notes.specs.Layout.{firstForm, secondForm, WordNotes, ByteNotes}
 use Rattle.voting.specs.declared.Peaks.{Peaks}
 
 -- ---- j is in the set and holds a 2a with learner b
 abbrev pub isVote : ByteNotes → ℕ → ℕ → ℕ → ℕ → Bool
-isVote y low high b j = inSet low high j && eqb (getD (y .forms) j 0) 2 && has (getD (y .learners) j 0) b
+isVote y low high b j = inSet low high j && eqb (getD (y .forms) j 0) secondForm && has (getD (y .learners) j 0) b
 
 -- its ballot, or 0
 abbrev pub voteBallot : WordNotes → ByteNotes → ℕ → ℕ → ℕ → ℕ → ℕ
@@ -50,7 +50,7 @@ isBarred r x y n low high signer v b = any (isOpposed r x y low high b signer v 
 
 -- ---- j is in the set and holds a 1b of this ballot, fresh for a
 abbrev pub isBacker : WordNotes → ByteNotes → ℕ → ℕ → ℕ → ℕ → ℕ → Bool
-isBacker x y low high a ballot j = inSet low high j && eqb (getD (y .forms) j 0) 1 && has (getD (y .fresh) j 0) a && eqb (getD (x .tops) j 0) ballot
+isBacker x y low high a ballot j = inSet low high j && eqb (getD (y .forms) j 0) firstForm && has (getD (y .fresh) j 0) a && eqb (getD (x .tops) j 0) ballot
 
 -- the signers of such places among the first n
 abbrev pub backedBy : Round → WordNotes → ByteNotes → ℕ → ℕ → ℕ → ℕ → ℕ → ℕ → Bool

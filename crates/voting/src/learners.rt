@@ -5,6 +5,8 @@ use graph::MAX_LEARNERS;
 use graph::Mask;
 use graph::lists::is_quorum;
 use graph::lists::safe_without;
+use notes::FIRST;
+use notes::SECOND;
 use notes::Walks;
 use notes::readers::form_at;
 use notes::readers::fresh_at;
@@ -65,7 +67,7 @@ fn is_vote(octets: &[u8], set: Places, b: usize, j: usize) -> bool
     ensures { λ r. ⌜ r ≡ isVote (byteNotes (now (octets .entry))) (set .low) (set .high) b j ⌝ }
 {
     has_place(set.low, set.high, j)
-        & (form_at(octets, j) == 2)
+        & (form_at(octets, j) == SECOND)
         & has_learner(learners_at(octets, j), b)
 }
 
@@ -195,7 +197,7 @@ fn rivals_at<'a>(
     requires { ⌜ Asked (now s) (now words) (now octets) × (j < maxHeld) ⌝ }
     ensures { λ r. ⌜ ((b : ℕ) → has r b ≡ isRival (roundIn (now (s .entry))) (wordNotes (now (words .entry))) (byteNotes (now (octets .entry))) (set .low) (set .high) signer v b j) ⌝ }
 {
-    if (form_at(octets, j) != 2) | (signer_at(s, j) != signer) {
+    if (form_at(octets, j) != SECOND) | (signer_at(s, j) != signer) {
         return 0;
     }
     if has_place(set.low, set.high, j) & (value(top_at(words, j)) != v) {
@@ -370,7 +372,7 @@ fn backed_at<'a>(words: &'a [u64], octets: &'a [u8], set: Places, ballot: u64, j
     requires { ⌜ Lent (now words) (now octets) × (j < maxHeld) ⌝ }
     ensures { λ r. ⌜ ((a : ℕ) → has r a ≡ isBacker (wordNotes (now (words .entry))) (byteNotes (now (octets .entry))) (set .low) (set .high) a ballot j) ⌝ }
 {
-    if (form_at(octets, j) != 1) | (top_at(words, j) != ballot) {
+    if (form_at(octets, j) != FIRST) | (top_at(words, j) != ballot) {
         return 0;
     }
     if has_place(set.low, set.high, j) {

@@ -3,7 +3,7 @@ use Prim.Native.Nat.{ℕ}
 use lib.ListN.{getD}
 use Rattle.places.specs.PlaceSets.{inSet}
 use Rattle.places.proofs.Membership.{in-both}
-use Rattle.notes.specs.Layout.{wordNotes}
+use Rattle.notes.specs.Layout.{wordNotes, firstForm}
 use Rattle.notes.specs.Index.{Filed}
 use Rattle.notes.specs.Index.{formKey}
 use borrow.Author.Needs.{needs}
@@ -25,7 +25,7 @@ returns c = let a = c .before .before .before .before .args in
     let k = c .before .ballot-key in
     let ones = c .before .before .within in
     λ q h s t u. in-both (inSet (ones .result .low) (ones .result .high) q) (inSet (getD (x .keylow) (k .result) 0) (getD (x .keyhigh) (k .result) 0) q) (c .within2 .ensures q h)
-    (in-both (inSet (a .set .low) (a .set .high) q) (inSet (getD (x .keylow) (formKey 1) 0) (getD (x .keyhigh) (formKey 1) 0) q) (ones .ensures q h) s t)
+    (in-both (inSet (a .set .low) (a .set .high) q) (inSet (getD (x .keylow) (formKey firstForm) 0) (getD (x .keyhigh) (formKey firstForm) 0) q) (ones .ensures q h) s t)
     (subst (λ (i : ℕ). Filed (x .keylow) (x .keyhigh) i q) (sym (k .ensures)) u)
 
 pub backers-of-spec : {M : Type 1} → statement M

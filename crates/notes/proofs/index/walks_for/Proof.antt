@@ -4,7 +4,7 @@ use Prim.Native.Nat.{ℕ}
 use lib.ListN.{getD}
 use Rattle.places.specs.PlaceSets.{inSet}
 use Rattle.places.proofs.Membership.{in-both}
-use Rattle.notes.specs.Layout.{wordNotes}
+use Rattle.notes.specs.Layout.{wordNotes, secondForm}
 use Rattle.notes.specs.Index.{Filed}
 use Rattle.notes.specs.Index.{formKey}
 use borrow.Author.Needs.{needs}
@@ -52,9 +52,9 @@ returns c = let a = c .before .before .before .before .before .before .before .b
           (subst (λ (k : ℕ). Filed (x .keylow) (x .keyhigh) k q) (sym (l .ensures)) u);
       catching = λ q h t u. in-both (inSet (a .set .low) (a .set .high) q) (inSet (forked .result .low) (forked .result .high) q) (c .before .before .before .common .ensures q h) t
           (transport (λ i. T (inSet (sym (forked .ensures .0) i) (sym (forked .ensures .1) i) q)) u);
-      voting = λ q h t u. in-both (inSet (a .set .low) (a .set .high) q) (inSet (getD (x .keylow) (formKey 2) 0) (getD (x .keyhigh) (formKey 2) 0) q) (votes .ensures q h) t u;
+      voting = λ q h t u. in-both (inSet (a .set .low) (a .set .high) q) (inSet (getD (x .keylow) (formKey secondForm) 0) (getD (x .keyhigh) (formKey secondForm) 0) q) (votes .ensures q h) t u;
       rivalling = λ q h t u v. in-both (inSet (votes .result .low) (votes .result .high) q) (inSet (getD (x .keylow) (s .result) 0) (getD (x .keyhigh) (s .result) 0) q) (c .before .within3 .ensures q h)
-          (in-both (inSet (a .set .low) (a .set .high) q) (inSet (getD (x .keylow) (formKey 2) 0) (getD (x .keyhigh) (formKey 2) 0) q) (votes .ensures q h) t u)
+          (in-both (inSet (a .set .low) (a .set .high) q) (inSet (getD (x .keylow) (formKey secondForm) 0) (getD (x .keyhigh) (formKey secondForm) 0) q) (votes .ensures q h) t u)
           (subst (λ (k : ℕ). Filed (x .keylow) (x .keyhigh) k q) (sym (s .ensures)) v);
       backing = c .backers-of .ensures;
     }

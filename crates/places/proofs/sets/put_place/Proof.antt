@@ -15,10 +15,11 @@ use Rattle.places.proofs.Indexing.{put-here, put-grown}
 use borrow.Author.Needs.{needs}
 use Rattle.places.proofs.sets.put_place.Statement.{statement}
 use Rattle.places.proofs.sets.put_place.Tie as tie
+use Rattle.round.specs.Limits.{maxHeld}
 
 -- the two words written, one among the low words and one among the high words
-both : (keys k j x y : ℕ) (s : List ℕ) → k < keys → length s ≡ keys + keys → j < 128
-    → ((q : ℕ) → q < 128 → inSet x y q ≡ ((true && eqb j q) || inSet (getD s k 0) (getD s (keys + k) 0) q))
+both : (keys k j x y : ℕ) (s : List ℕ) → k < keys → length s ≡ keys + keys → j < maxHeld
+    → ((q : ℕ) → q < maxHeld → inSet x y q ≡ ((true && eqb j q) || inSet (getD s k 0) (getD s (keys + k) 0) q))
     → let s′ = set (set s k x) (keys + k) y in
     Grown (part keys s 0) (part keys s keys) (part keys s′ 0) (part keys s′ keys) × T (inSet (getD (part keys s′ 0) k 0) (getD (part keys s′ keys) k 0) j)
 both keys k j x y s h n l put =
@@ -35,7 +36,7 @@ both keys k j x y s h n l put =
     ap (part keys s′) (sym z) ∙ ap (λ (c : List (List ℕ)). getD c 1 []) e ∙ ap (λ (i : ℕ). set (part keys s i) k y) z in
     let lk : k < length low = omega (arith, part-length keys s 0 (omega arith)) in
     let hk : k < length high = omega (arith, part-length keys s keys (omega arith)) in
-    let p : (q : ℕ) → q < 128 → inSet x y q ≡ ((true && eqb j q) || inSet (getD low k 0) (getD high k 0) q) =
+    let p : (q : ℕ) → q < maxHeld → inSet x y q ≡ ((true && eqb j q) || inSet (getD low k 0) (getD high k 0) q) =
     λ q b. put q b ∙ sym (ap₂ (λ (v w : ℕ). (true && eqb j q) || inSet v w q) (getD-take keys s k 0 h) (getD-part keys s keys k h)) in
     subst₂ (λ (a b : List ℕ). Grown low high a b × T (inSet (getD a k 0) (getD b k 0) j)) (sym (ap (λ (c : List (List ℕ)). getD c 0 []) e)) (sym f)
     (put-grown k x y j low high lk hk p, put-here k x y j low high lk hk p l)
