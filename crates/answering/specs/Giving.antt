@@ -39,6 +39,7 @@ refusal r e = record { outcome = Refused e; round = r }
 -- ---- what is asked
 -- of the bytes s of a round that may answer the message at place p, and of the reply buffer
 pub record Answerable (s : List ℕ) (p : ℕ) (buffer : List ℕ) : Type 0 where
+  -- the round passes row 17,
   pub passes : Passes s
   -- the message is held,
   pub here : p < roundIn s .held
@@ -47,8 +48,9 @@ pub record Answerable (s : List ℕ) (p : ℕ) (buffer : List ℕ) : Type 0 wher
   -- and the longest message fits the buffer
   pub long : replyLen ≤ length buffer
 
--- of the notes of a round: those of its first n places are right,
+-- of the notes of a round
 pub record Begun (r : Round) (n : ℕ) (words octets : List ℕ) : Type 0 where
+  -- those of its first n places are right,
   pub worked : WorkedTo r n words octets
   -- which are all, or all but the last, which none of them names as its previous one
   pub near : (n ≡ r .held) ⊎ ((r .held ≡ suc n) × Fit n r)

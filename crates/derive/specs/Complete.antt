@@ -23,13 +23,13 @@ pub record Complete (r : Round) (n : ℕ) (x : WordNotes) (y : ByteNotes) : Type
   -- and so has the index of the places
   pub marked : Marks n r x y
 
--- ---- the notes x′ and y′ of the first p places, from those x and y of the first `from`: the names and the index of the ids stay, the index has the
--- places, and where the notes x and y are right and all held messages have their names, x′ and y′ are right
+-- ---- the notes x′ and y′ of the first p places, from those x and y of the first `from`
 pub record Extended (r : Round) (from p : ℕ) (x x′ : WordNotes) (y y′ : ByteNotes) : Type 0 where
   -- the names stay,
   pub names : y′ .names ≡ y .names
-  -- and so does the index of the ids;
+  -- and so does the index of the ids, in its low words
   pub idlow : x′ .idlow ≡ x .idlow
+  -- and in its high ones;
   pub idhigh : x′ .idhigh ≡ x .idhigh
   -- the index has the places,
   pub marked : Marks p r x′ y′
@@ -38,7 +38,9 @@ pub record Extended (r : Round) (from p : ℕ) (x x′ : WordNotes) (y y′ : By
 
 -- ---- the notes of the first n places of a round, in lent arrays
 pub record WorkedTo (r : Round) (n : ℕ) (words octets : List ℕ) : Type 0 where
+  -- the arrays have room for notes,
   pub lent : Lent words octets
+  -- and hold those of the n places
   pub complete : Complete r n (wordNotes words) (byteNotes octets)
 
 -- and those of all its messages

@@ -24,6 +24,7 @@ use Rattle.judging.specs.Referring.{Referring}
 -- ---- what is asked
 -- of the bytes s of a round, the id i of a message that is taken, and the reply buffer
 pub record Takes (s : List ℕ) (i : Id) (buffer : List ℕ) : Type 0 where
+  -- the round passes row 17,
   pub passes : Passes s
   -- the id is whole,
   pub id-bytes : length i ≡ idLen
@@ -32,6 +33,7 @@ pub record Takes (s : List ℕ) (i : Id) (buffer : List ℕ) : Type 0 where
 
 -- where rows 8 to 12 of an acceptor message are clear
 pub record Settles (s : List ℕ) (i : Id) (f : Found) (v : Vote) (buffer : List ℕ) : Type 0 where
+  -- what is asked of a message that is taken holds,
   pub takes : Takes s i buffer
   -- f is what was found for its id,
   pub found : placeFound f ≡ placeOf (roundIn s) i
@@ -58,8 +60,11 @@ abbrev pub enteredAt : Round → Option ℕ → ℕ
 enteredAt r none = r .held
 enteredAt r (some p) = p
 
--- the bytes s became t, and the message is at place p
+-- the bytes s became t
 pub record Enters (s t : List ℕ) (h : Held) (f : Found) (p : ℕ) : Type 0 where
+  -- the message is held in the round,
   pub round : roundIn t ≡ enteredIn (roundIn s) h (placeFound f)
+  -- p is its place,
   pub place : p ≡ enteredAt (roundIn s) (placeFound f)
+  -- and bytes behind the round stay
   pub kept : Kept s t

@@ -69,9 +69,11 @@ abbrev pub readingOf : List ℕ → Reading
 readingOf s = contentsReading (contents s)
 
 -- ---- what the steps of `read` ask
--- the lists of a graph in memory, with no more learners than there is room for
+-- of the lists of a graph in memory
 pub record InMemory (counts masks : List ℕ) (learners : ℕ) : Type 0 where
+  -- there are no more learners than there is room for,
   pub few : learners ≤ maxLearners
+  -- and the arrays have their sizes
   pub sized : GraphSized counts masks
 
 -- a file of n acceptors that is read from a place on:

@@ -36,21 +36,29 @@ FilesDiffer =
     → SameGraph (viewOf (readingOf s .graph)) (viewOf (readingOf t .graph)) → s ≡ t
 
 -- ---- what is written is read back
--- What rows 3 to 5 ask of a list: as many masks as it may have, and each of them accepted behind those in front of it.
+-- What rows 3 to 5 ask of a list:
 pub record ListInOrder (n low : ℕ) (l : List ℕ) : Type 0 where
+  -- it has as many masks as it must have,
   pub enough : low ≤ length l
+  -- no more than it may have,
   pub most : length l ≤ maxMasks
+  -- and each of them is accepted behind those in front of it
   pub masks : (i : ℕ) → i < length l → maskAnswer n (take i l) (getD l i 0) ≡ Accepted
 
--- What they ask of a graph.
+-- What they ask of a graph:
 pub record InOrder (G : LearnerGraph) : Type 0 where
+  -- it has 1 to 16 acceptors
   pub someAcceptors : 1 ≤ G .acceptors
   pub mostAcceptors : G .acceptors ≤ maxAcceptors
+  -- and 1 to 8 learners,
   pub someLearners : 1 ≤ G .learners
   pub mostLearners : G .learners ≤ maxLearners
+  -- each learner has a quorum list in order, which is not empty,
   pub quorums : (a : ℕ) → a < G .learners → ListInOrder (G .acceptors) 1 (G .quorums a)
+  -- and each pair a list of safe sets in order
   pub safes : (a b : ℕ) → a < G .learners → b < G .learners → ListInOrder (G .acceptors) 0 (G .safes a b)
 
+-- The reading r has no fault and says the same as the graph g.
 pub record ReadBack (g : Graph) (r : Reading) : Type 0 where
   pub accepted : r .answer ≡ Accepted
   pub same : SameGraph (viewOf (r .graph)) (viewOf g)

@@ -86,14 +86,18 @@ writeTo g buffer = pick (writable g buffer) (graphFile g ++ drop (length (graphF
 abbrev pub MasksFit : List ℕ → Type 0
 MasksFit masks = (i : ℕ) → getD masks i 0 < 256 ^ maskBytes
 
--- masks that a file can say, and room for e from `at` on
+-- what is asked before e is put in from `at` on
 pub record Room (masks out : List ℕ) (at : ℕ) (e : List ℕ) : Type 0 where
+  -- the masks are such that a file can say them,
   pub fit : MasksFit masks
+  -- and there is room for e
   pub room : at + length e ≤ length out
 
--- e was put in from `at` on, and the place behind it is the answer
+-- what is so once it was put in
 pub record PutIn (e : List ℕ) (at r : ℕ) (before after : List ℕ) : Type 0 where
+  -- the place behind it is the answer,
   pub behind : r ≡ at + length e
+  -- and it stands in the bytes, of which no other changed
   pub held : after ≡ putAt before at e
 
 -- the quorums of all learners, the row of learner a, and all rows

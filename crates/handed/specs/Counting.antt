@@ -15,6 +15,7 @@ pub record Counted (s : List ℕ) (learners pairs k : ℕ) : Type 0 where
   pub list : k < lists
   -- the graph has so many learners,
   pub read : learners ≡ roundIn s .graph .learners
-  -- and so many pairs of them, which fit one byte
+  -- and so many pairs of them,
   pub all-pairs : pairs ≡ triangle learners
+  -- which fit one byte
   pub few : pairs < 256

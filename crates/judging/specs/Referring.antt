@@ -23,8 +23,9 @@ pub record Referring (r : Round) (v : Vote) : Type 0 where
   pub least : 1 ≤ v .count
   -- and to no more than there are places,
   pub most : v .count ≤ maxHeld
+  -- for each of which the array has room,
   pub whole : length (v .places) ≡ maxHeld
-  -- each of them held;
+  -- and each that it names is held;
   pub earlier : Earlier r (refersTo v)
   -- its previous message is none or held,
   pub placed : T (placeFits r (v .previous))

@@ -17,6 +17,7 @@ pub record Passes (s : List ℕ) : Type 0 where
 
 -- it was read and worked out
 pub record AtHand (s masks words octets : List ℕ) : Type 0 where
+  -- the round passes row 17,
   pub passes : Passes s
   -- the masks are those of its graph,
   pub read : masks ≡ roundIn s .graph .masks

@@ -57,11 +57,13 @@ pub record AllNoted (G : LearnerGraph) (t : Table) (r : Round) (x : WordNotes) (
   pub noted : (i : ℕ) → i < length t
       → Noted G t i (getD (x .low) i 0) (getD (x .high) i 0) (getD (x .forklow) i 0) (getD (x .forkhigh) i 0) (getD (x .tops) i 0) (getD (y .learners) i 0) (getD (y .fresh) i 0) (getD (y .forms) i 0)
 
--- ---- an acceptor message with this id, previous id and references: it refers to places of t, its name tells its id from those held, and
--- its link its previous id
+-- ---- an acceptor message with this id, previous id and references
 pub record Candidate (t : Table) (r : Round) (y : ByteNotes) (places : List ℕ) (id : Id) (prev : Option Id) (name link : ℕ) : Type 0 where
+  -- it refers to places of t,
   pub earlier : (j : ℕ) → j ∈ places → j < length t
+  -- its name tells its id from those held,
   pub named : (j : ℕ) → j < length t → eqb (getD (y .names) j 0) name ≡ sameId (heldId (at t j)) id
+  -- and its link its previous id from theirs
   pub linked : (j : ℕ) → j < length t → T (not (offered (at t j))) → eqb (linkAt r y j) link ≡ samePrevious (heldPrevious (at t j)) prev
 
 -- ---- what is worked out for place i of t is right, but that the place itself is left out of what it reaches
@@ -87,5 +89,7 @@ pub record Told (G : LearnerGraph) (t : Table) (i : ℕ) (r : Worked) : Type 0 w
 
 -- ---- what is asked of a message m before it is taken or sent
 pub record Judged (G : LearnerGraph) (m : Message) (r : Note) : Type 0 where
+  -- is it well-formed as a 1b,
   pub formed1 : r .formed1b ≡ formed1b m
+  -- and is it as a 2a
   pub formed2 : r .formed2a ≡ formed2a G m

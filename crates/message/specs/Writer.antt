@@ -61,12 +61,17 @@ writtenTo e buffer = pick (ltb (length buffer) (length e)) buffer (fronted e buf
 abbrev pub wrote : List ℕ → List ℕ → Written
 wrote e buffer = pick (ltb (length buffer) (length e)) (NotWritten Argument) (Bytes (length e))
 
--- what the layers above hold to when they write an acceptor message: the previous id is none or whole, each place is one of the table's, the message fits the buffer
+-- what the layers above hold to when they write an acceptor message
 pub record Writable (previous ids places buffer : List ℕ) (n : ℕ) : Type 0 where
+  -- the previous id is none or whole,
   pub previous-id : (length previous ≡ 0) ⊎ (length previous ≡ idLen)
+  -- there are no more references than one may have,
   pub most : n ≤ mostReferences
+  -- each has its place in the array,
   pub listed : n ≤ length places
+  -- which is one of the table's,
   pub within : (i : ℕ) → i < n → idLen * getD places i 0 + idLen ≤ length ids
+  -- and the message fits the buffer
   pub room : acceptorLen (hasPrevious previous) n ≤ length buffer
 
 -- the n-th reference of the bytes s, copied to the front of a lent buffer: 17 for a buffer too short, then 1 to 4, then 17 where there is none

@@ -9,12 +9,16 @@ use Rattle.round.specs.Limits.{maxHeld}
 use Rattle.roundbytes.specs.Layout.{roundLen}
 use Rattle.notes.specs.Layout.{Lent}
 
--- the bytes have room for a round, and the arrays for its notes
+-- of the bytes of a round and the arrays of its notes
 pub record Asked (s words octets : List ℕ) : Type 0 where
+  -- the bytes have room for a round,
   pub long : roundLen ≤ length s
+  -- and the arrays for its notes
   pub lent : Lent words octets
 
--- a round has the n places, and the walk has each of them that passes the test
+-- of n places and of a walk
 pub record Covering (n : ℕ) (test : ℕ → Bool) (walk : Places) : Type 0 where
+  -- a round has the n places,
   pub few : n ≤ maxHeld
+  -- and the walk has each of them that passes the test
   pub covers : Covers n test (walk .low) (walk .high)

@@ -142,5 +142,7 @@ byteNotes b =
 
 -- ---- arrays that have room for them
 pub record Lent (words octets : List ℕ) : Type 0 where
+  -- for those in words,
   pub wordRoom : length words ≡ wordsLen
+  -- and for those in bytes
   pub octetRoom : length octets ≡ octetsLen

@@ -49,10 +49,13 @@ withIndex x keylow keyhigh forkedlow forkedhigh =
       forkedhigh = forkedhigh;
     }
 
--- place p is put into the sets of its keys, and among the forking places where it is one; nothing else of the notes x is another in x′
+-- place p is filed, and the notes x became x′
 pub record FiledIn (x x′ : WordNotes) (signer link ballot form : ℕ) (forks : Bool) (p : ℕ) : Type 0 where
+  -- the place is put into the sets of its keys,
   pub put : Put (x .keylow) (x .keyhigh) (x′ .keylow) (x′ .keyhigh) signer link ballot form p
+  -- and among the forking places where it is one;
   pub forked : (q : ℕ) → q < maxHeld → inSet (x′ .forkedlow) (x′ .forkedhigh) q ≡ ((forks && eqb p q) || inSet (x .forkedlow) (x .forkedhigh) q)
+  -- nothing else is another
   pub rest : x′ ≡ withIndex x (x′ .keylow) (x′ .keyhigh) (x′ .forkedlow) (x′ .forkedhigh)
 
 -- ---- the notes with another index of the ids
@@ -72,10 +75,13 @@ withIds x idlow idhigh =
       forkedhigh = x .forkedhigh;
     }
 
--- place j is put into the set of key k of the ids; nothing else of the notes x is another in x′
+-- place j is filed under key k of the ids, and the notes x became x′
 pub record IdFiled (x x′ : WordNotes) (k j : ℕ) : Type 0 where
+  -- what was in the sets of the ids is still there,
   pub grown : Grown (x .idlow) (x .idhigh) (x′ .idlow) (x′ .idhigh)
+  -- the place is in that of the key,
   pub here : T (inSet (getD (x′ .idlow) k 0) (getD (x′ .idhigh) k 0) j)
+  -- and nothing else is another
   pub rest : x′ ≡ withIds x (x′ .idlow) (x′ .idhigh)
 
 -- ---- the notes with other names

@@ -22,8 +22,11 @@ NoneBelow low high r = (q : ℕ) → q < r → inSet low high q ≡ false
 
 -- r is the first place of the set, or n where none of the first n places is in it
 pub record First (n low high r : ℕ) : Type 0 where
+  -- it is n at most,
   pub bound : r ≤ n
+  -- no place below it is in the set,
   pub none : NoneBelow low high r
+  -- and where it is less than n, it is in the set itself
   pub member : r < n → T (inSet low high r)
 
 -- the second set is the first one without its first place

@@ -21,10 +21,13 @@ unfoldable pub highest : List ℕ → List ℕ → ℕ
 highest tops [] = 0
 highest tops (k ∷ l) = max (getD tops k 0) (highest tops l)
 
--- ---- what lies beneath a message that refers to these places: a set of places, a ballot, and whether one of them holds a proposal
+-- ---- what lies beneath a message that refers to these places
 pub record Beneath (r : Round) (x : WordNotes) (places : List ℕ) (setLow setHigh ballot : ℕ) (offered : Bool) : Type 0 where
+  -- a set of places: all that one of them reaches,
   pub set : (q : ℕ) → q < maxHeld → inSet setLow setHigh q ≡ any (λ k. inSet (getD (x .low) k 0) (getD (x .high) k 0) q) places
+  -- a ballot: the highest of theirs,
   pub top : ballot ≡ highest (x .tops) places
+  -- and whether one of them holds a proposal
   pub offer : offered ≡ any (isProposalAt r) places
 
 -- ---- the record of j forks with an acceptor message of this signer, name and link. The name of a message is the lowest place with its id,
@@ -44,8 +47,11 @@ isCrowding r x y low high name ballot j =
 
 -- ---- k is the lowest of the first n places with an id, or n
 pub record Lowest (r : Round) (n : ℕ) (id : Id) (k : ℕ) : Type 0 where
+  -- it is n at most,
   pub bound : k ≤ n
+  -- it has the id where it is less than n,
   pub here : k < n → idAt r k ≡ id
+  -- and no place below it has
   pub first : (j : ℕ) → j < k → idAt r j ≡ id → ⊥
 
 -- ---- the key of an id: the low bits of its first byte
@@ -56,14 +62,18 @@ idKey bytes at = getD bytes at 0 % idKeys
 abbrev pub IdsIndexed : Round → ℕ → WordNotes → Type 0
 IdsIndexed r n x = Indexed n (λ j. idKey (r .ids) (idLen * j)) (x .idlow) (x .idhigh)
 
--- a round has n places, and each is in the set of the key of its id
+-- of the first n places of a round
 pub record IdsFiled (r : Round) (n : ℕ) (x : WordNotes) : Type 0 where
+  -- a round has them,
   pub few : n ≤ maxHeld
+  -- and each is in the set of the key of its id
   pub indexed : IdsIndexed r n x
 
--- each of the first n places has its name, and none stands for itself
+-- ---- of the names of the first n places
 pub record Named (r : Round) (n : ℕ) (y : ByteNotes) : Type 0 where
+  -- none stands for itself,
   pub none : getD (y .names) noPlace 0 ≡ noPlace
+  -- and each place has the lowest one with its id
   pub each : (i : ℕ) → i < n → Lowest r i (idAt r i) (getD (y .names) i 0)
 
 -- ---- one place more has its name and is in the index of the ids; nothing else of the notes is another
