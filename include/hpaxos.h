@@ -31,7 +31,7 @@ enum hpaxos_answer {
     HPAXOS_MALFORMED_1B = 14, /* 1b not well-formed */
     HPAXOS_MALFORMED_2A = 15, /* 2a not well-formed */
     HPAXOS_FULL = 16,         /* the round holds as many messages as it can */
-    HPAXOS_ARGUMENT = 17,     /* a lent buffer too short, a number that the graph lacks, no n-th reference, or bytes that are no round */
+    HPAXOS_ARGUMENT = 17,     /* a lent buffer too short, a number that the graph lacks, no n-th reference, or a round with a count or place out of bounds */
 
     HPAXOS_REPLIED = 256      /* a delivery with a reply; its length is added */
 };
@@ -50,27 +50,31 @@ enum hpaxos_state {
        hpaxos_report(round, sizeof round, 0, page, sizeof page);                          page[0] == HPAXOS_DECIDED: agreed */
 
 /* A round is bytes in a buffer of the host, which may copy, keep and move them; a call reads and writes the first HPAXOS_ROUND_BYTES
-   and none behind them. Place p belongs to the p-th held message, from 0 on; what is not in use is not read.
+   and none behind them. Place p belongs to the p-th held message, from 0 on. A count or place outside the bounds below is HPAXOS_ARGUMENT in
+   every call. What is not in use is not read: the lists of learners that the graph lacks, places that hold nothing, a proposal's references.
 
    offset   size  field
-        0      1  acceptors of the graph
-        1      1  learners of the graph
-        2     44  how many masks each list of the graph has: the quorums of learner 0 to 7, then the safe lists 0-0, 0-1, 1-1, 0-2 and so on
+        0      1  acceptors of the graph, 1 to 16
+        1      1  learners of the graph, 1 to 8
+        2     44  how many masks each list of the graph has: the quorums of learner 0 to 7, then the safe lists 0-0, 0-1, 1-1, 0-2 and so on;
+                  at most 8 in each that is in use
        46   1408  the masks: list k has eight places of 4 bytes from 46 + 32 * k on
      1454      2  house
      1456      2  bay
-     1458      2  own acceptor number; 256 and more: listening only
+     1458      2  own acceptor number; 256: listening only. Any other that the graph lacks is HPAXOS_ARGUMENT
      1460      1  how many messages are held, at most 128
-     1461      1  place of the last sent message; 255: none
+     1461      1  place of the last sent message, a held one; 255: none
      1462   4096  ids: place p has 32 bytes from 1462 + 32 * p on
      5558    128  kinds; 1: a proposal, any other: an acceptor message
      5686    128  signers
      5814   1024  ballots of proposals, 8 bytes each
-     6838    128  place of an acceptor message's previous message; 255: none, as for a proposal
-     6966    128  how many references an acceptor message has, at most 128; 0 for a proposal
-     7094  16384  their places: place p has 128 bytes from 7094 + 128 * p on
+     6838    128  place of an acceptor message's previous message, a held one; 255: none. A proposal's is written 255 and is read, too:
+                  any but 255 or a held place is HPAXOS_ARGUMENT
+     6966    128  how many references an acceptor message has, 1 to 128. A proposal's is written 0 and is read, too: more than 128 is
+                  HPAXOS_ARGUMENT
+     7094  16384  their places: place p has 128 bytes from 7094 + 128 * p on; each is below p
     23478    128  known; 0: awaits its return
-    23606    128  recent, the messages that the next reply refers to; 0: not in it */
+    23606    128  recent, the messages that the next reply refers to; 0: not in it. A reply writes all of these bytes */
 #define HPAXOS_ROUND_BYTES 23734
 
 /* The acceptor number of a round that listens only. */
@@ -82,17 +86,19 @@ enum hpaxos_state {
 /* A report: its state, and two ballots behind it. */
 #define HPAXOS_REPORT_BYTES 17
 
-/* Opens a round from a graph file for an acceptor number, 0 to 255, or HPAXOS_LISTENING.
+/* Opens a round from a graph file for an acceptor of the graph, by its number, or HPAXOS_LISTENING.
    HPAXOS_ACCEPTED: the first HPAXOS_ROUND_BYTES bytes of round are the round, those behind keep their values.
-   HPAXOS_ARGUMENT: round_len < HPAXOS_ROUND_BYTES, before all else.
-   HPAXOS_LENGTH to HPAXOS_NOT_CONDENSED: as hpaxos_check_graph.
-   HPAXOS_ARGUMENT: then, where the acceptor number is not in the graph. */
+   HPAXOS_LENGTH to HPAXOS_NOT_CONDENSED: as hpaxos_check_graph, before all else.
+   HPAXOS_ARGUMENT: then, where round_len < HPAXOS_ROUND_BYTES, or the acceptor number is neither in the graph nor HPAXOS_LISTENING. */
 uint32_t hpaxos_open(const uint8_t *graph, size_t graph_len, uint16_t house, uint16_t bay, uint32_t acceptor, uint8_t *round, size_t round_len);
 
 /* Delivers a message, any bytes, to a round, and keeps the next round in its place.
    HPAXOS_ACCEPTED: accepted, with no reply; reply keeps its values.
    HPAXOS_REPLIED + n: accepted; the first n bytes of reply are the message to send, those behind keep their values.
-   HPAXOS_ARGUMENT: round_len < HPAXOS_ROUND_BYTES, a round that no table can be, or reply_len < HPAXOS_REPLY_BYTES, before all else.
+      In both cases the message is held, at the first free place, which is written in every column (of the references those that it has);
+      or it returns, and becomes known where it is. A reply is held at the next free place, is last sent, and is recent alone: 1 at its place, 0 at all
+      127 others, free ones too. Without one, the message joins recent in a round that votes, unless it is a proposal.
+   HPAXOS_ARGUMENT: round_len < HPAXOS_ROUND_BYTES, a round with a count or place out of bounds, or reply_len < HPAXOS_REPLY_BYTES, before all else.
    HPAXOS_LENGTH to HPAXOS_ORDER: the bytes are no message, as hpaxos_read_message.
    HPAXOS_OTHER_ROUND to HPAXOS_FULL: then, the first of them that applies, in the order of their numbers. */
 uint32_t hpaxos_deliver(uint8_t *round, size_t round_len, const uint8_t *message, size_t message_len, uint8_t *reply, size_t reply_len);
@@ -101,7 +107,7 @@ uint32_t hpaxos_deliver(uint8_t *round, size_t round_len, const uint8_t *message
    HPAXOS_ACCEPTED: the first HPAXOS_REPORT_BYTES bytes of out are the report, those behind keep their values: 1 byte, HPAXOS_UNDECIDED,
       HPAXOS_DECIDED or HPAXOS_SPLIT; the least deciding ballot, 8 bytes, zeros if undecided; for a split the least deciding ballot of
       another value, 8 bytes, else zeros. The lower four bytes of a ballot are its value.
-   HPAXOS_ARGUMENT: round_len < HPAXOS_ROUND_BYTES, out_len < HPAXOS_REPORT_BYTES, a round that no table can be, or a learner not in the
+   HPAXOS_ARGUMENT: round_len < HPAXOS_ROUND_BYTES, out_len < HPAXOS_REPORT_BYTES, a round with a count or place out of bounds, or a learner not in the
       graph. */
 uint32_t hpaxos_report(const uint8_t *round, size_t round_len, uint8_t learner, uint8_t *out, size_t out_len);
 

@@ -18,7 +18,7 @@ use crate::sha256::Id;
 pub fn take(bytes: &[u8]) -> Result<Round, Refusal> {
     let graph = take_graph(bytes)?;
     let own = match OWN.number(bytes, 0) {
-        LISTENING.. => None,
+        LISTENING => None,
         number if number < graph.acceptors as u64 => Some(number as u8),
         _ => return Err(Refusal::Argument),
     };
@@ -124,6 +124,22 @@ mod tests {
             write_delivery(&mut bytes, &round, &delivery);
             let Step::Replied(reply) = delivery.step else { panic!("G0's acceptor replies") };
             next = reply;
+        }
+    }
+
+    #[test]
+    fn only_256_is_none() {
+        let round = open(&graph::write(&g0()), 1, 12, None).expect("G0 opens");
+        let mut bytes = opened(&round);
+        for number in 0..=u16::MAX {
+            OWN.put(&mut bytes, 0, number.into());
+            let own = take(&bytes).map(|round| round.own);
+            let expected = match number {
+                0 => Ok(Some(0)),
+                256 => Ok(None),
+                _ => Err(Refusal::Argument),
+            };
+            assert_eq!(own, expected, "own number {number}");
         }
     }
 }

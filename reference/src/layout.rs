@@ -4,11 +4,12 @@
 use crate::graph::{LearnerGraph, Mask, MOST_LEARNERS, MOST_MASKS};
 use crate::meaning::{Content, Place};
 use crate::message::{ACCEPTOR_MESSAGE, MOST_REFERENCES, PROPOSAL};
-use crate::round::{Delivery, Round, Step, CAPACITY};
+use crate::refusal::Refusal;
+use crate::round::{self, Delivery, Round, Step, CAPACITY};
 
 /// A place that stands for none.
 pub const NO_PLACE: u64 = 255;
-/// The own acceptor number that stands for none; higher ones do too.
+/// The own acceptor number that stands for none, and the only one.
 pub const LISTENING: u64 = 256;
 /// One list for each learner, and one for each pair of them.
 pub const LISTS: usize = MOST_LEARNERS + MOST_LEARNERS * (MOST_LEARNERS + 1) / 2;
@@ -99,6 +100,20 @@ pub fn list_of_pair(a: usize, b: usize) -> usize {
     MOST_LEARNERS + b * (b + 1) / 2 + a
 }
 
+/// The model's round and the bytes that an opening writes, or why it is turned down.
+pub type Opening = Result<(Round, Vec<u8>), Refusal>;
+
+/// An opening into a buffer of `room` bytes. The file is "checked first; 17 comes after 7": of a file that is turned down it
+/// does not matter how long the buffer is.
+pub fn open(file: &[u8], (house, bay, own): (u16, u16, Option<u32>), room: usize) -> Opening {
+    let round = round::open(file, house, bay, own)?;
+    if room < ROUND_LEN {
+        return Err(Refusal::Argument);
+    }
+    let bytes = opened(&round);
+    Ok((round, bytes))
+}
+
 /// What an opening writes: the graph, the numbers and no message; all else is zero.
 pub fn opened(round: &Round) -> Vec<u8> {
     let mut bytes = vec![0; ROUND_LEN];
@@ -182,4 +197,25 @@ pub fn first_difference(library: &[u8], model: &[u8]) -> Option<String> {
         "byte {at} of the round ({}, entry {entry}, byte {byte}) is {}, model {}",
         field.name, library[at], model[at]
     ))
+}
+
+#[cfg(test)]
+mod tests {
+    use super::*;
+    use crate::{graph, sites::g0};
+
+    #[test]
+    fn a_short_buffer_comes_behind_the_file() {
+        let accepted = graph::write(&g0());
+        let mut of_version_2 = accepted.clone();
+        of_version_2[2] = 2;
+        for (room, refusal) in [(0, true), (ROUND_LEN - 1, true), (ROUND_LEN, false)] {
+            let outcome = open(&accepted, (1, 12, None), room).err();
+            assert_eq!(outcome, refusal.then_some(Refusal::Argument));
+            for own in [None, Some(0), Some(1), Some(257)] {
+                let outcome = open(&of_version_2, (1, 12, own), room).err();
+                assert_eq!(outcome, Some(Refusal::Version));
+            }
+        }
+    }
 }

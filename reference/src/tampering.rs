@@ -1,7 +1,7 @@
 //! Rounds to hand in that no opening led to: running ones with faults, tables of
 //! random messages, and bytes that are no round at all.
 
-use crate::graph::{MOST_LEARNERS, MOST_MASKS};
+use crate::graph::{MOST_ACCEPTORS, MOST_LEARNERS, MOST_MASKS};
 use crate::layout::{
     Field, ACCEPTORS, BALLOTS, BAY, COUNTS, HELD, HOUSE, IDS, KINDS, KNOWN, LAST, LEARNERS,
     LISTENING, LISTS, LIST_COUNTS, MASKS, NO_PLACE, OWN, PREVIOUS, RECENT, REFERENCES, ROUND_LEN,
@@ -77,6 +77,18 @@ fn disturb_id(random: &mut Random, bytes: &mut [u8]) {
     }
 }
 
+/// Mostly a number about 256, which stands for none, or one that only its upper byte
+/// tells from an acceptor's.
+fn disturb_own(random: &mut Random, bytes: &mut [u8]) {
+    let number = match random.below(4) {
+        0 => return disturb(random, bytes, OWN, 0),
+        1 => *random.pick(&[255, 256, 257, 511, 512, 65_535]),
+        2 => 0x0100 + random.below(MOST_ACCEPTORS) as u64,
+        _ => random.word(),
+    };
+    OWN.put(bytes, 0, number);
+}
+
 /// Lists of the first learners are the likeliest to be in use.
 fn disturb_list(random: &mut Random, bytes: &mut [u8]) {
     let any = random.below(LISTS);
@@ -97,7 +109,7 @@ pub fn damage(random: &mut Random, bytes: &mut [u8]) {
         8 | 9 => disturb_id(random, bytes),
         10 => disturb(random, bytes, HELD, 0),
         11 => disturb(random, bytes, LAST, 0),
-        12 => disturb(random, bytes, OWN, 0),
+        12 => disturb_own(random, bytes),
         13 => {
             let field = *random.pick(&[ACCEPTORS, LEARNERS, HOUSE, BAY]);
             disturb(random, bytes, field, 0);
@@ -125,7 +137,7 @@ pub fn fill_table(random: &mut Random, bytes: &mut [u8], sent: &[Vec<u8>]) {
     let held = *random.pick(&[1, 3, 6, 10, 20, 126, 127, 128]);
     let held = random.between(held.min(126), held);
     HELD.put(bytes, 0, held as u64);
-    let own = *random.pick(&[0, 0, 0, 1, LISTENING, 65_535]);
+    let own = *random.pick(&[0, 0, 0, 1, LISTENING, LISTENING]);
     OWN.put(bytes, 0, own);
     let last = if random.once_in(3) { NO_PLACE } else { random.below(held) as u64 };
     LAST.put(bytes, 0, last);

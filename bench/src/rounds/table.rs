@@ -163,7 +163,7 @@ impl<'a> Table<'a> {
         (1..=16).contains(&acceptors)
             && (1..=8).contains(&learners)
             && self.lists_fit(usize::from(learners))
-            && (!self.votes() || self.own() < u16::from(acceptors))
+            && (self.own() == LISTENING || self.own() < u16::from(acceptors))
             && held <= CAPACITY
             && (self.last() == NOWHERE || usize::from(self.last()) < held)
             && (0..held).all(|place| self.message_fits(place))

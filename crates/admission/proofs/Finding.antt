@@ -22,7 +22,7 @@ use Rattle.round.specs.Rows.{orZero, idsFrom}
 use Rattle.round.proofs.Named.{place-some}
 use Rattle.admission.specs.declared.lookup.Found.{Found}
 use Rattle.admission.specs.declared.lookup.Found.the-variants.{At}
-use Rattle.admission.specs.Finding.{placeFound, Inside, placesOf}
+use Rattle.admission.specs.Inside.Finding.{placeFound, Inside, placesOf}
 
 -- ---- two ids, by the numbers that their bytes are
 -- numbers are the same if what stands above their last bytes is, and these are

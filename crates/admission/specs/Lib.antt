@@ -1,4 +1,2 @@
--- What the look-ups ask for and answer
-pub mod Finding
--- What a round holds of an acceptor message whose ids were looked up
-pub mod Votes
+-- What only functions inside say to each other: no promise leans on it
+pub mod Inside

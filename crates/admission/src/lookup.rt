@@ -16,7 +16,7 @@ ghost use Rattle.round.specs.Holdings.{named, placeOf};
 ghost use Rattle.round.specs.Handed.{placeFits};
 ghost use Rattle.round.specs.Delivery.{previousPlace};
 ghost use Rattle.roundbytes.specs.Layout.{roundIn};
-ghost use Rattle.admission.specs.Finding.{Bounded, placeFound};
+ghost use Rattle.admission.specs.Inside.Finding.{Bounded, placeFound};
 
 // The place that an id names, or nothing.
 pub enum Found {

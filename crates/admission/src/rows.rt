@@ -26,7 +26,7 @@ ghost use Rattle.round.specs.Holdings.{isKnown};
 ghost use Rattle.round.specs.Rows.{idsFrom, referenceIds, previousId, placed, lacks, isVoteOf, unchained};
 ghost use Rattle.round.specs.Delivery.{previousPlace};
 ghost use Rattle.roundbytes.specs.Layout.{roundLen, roundIn};
-ghost use Rattle.admission.specs.Finding.{Bounded, Listed, Inside, placeFound, placesOf};
+ghost use Rattle.admission.specs.Inside.Finding.{Bounded, Listed, Inside, placeFound, placesOf};
 
 // What a round holds of an acceptor message: the place of its previous message or NO_PLACE, and those of its references, the first `count`.
 pub struct Vote {

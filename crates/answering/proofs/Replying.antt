@@ -11,28 +11,29 @@ use borrow.Author.Tests.{le-ltb, lt-ltb}
 use Rattle.round.specs.Round.{Round}
 use Rattle.round.proofs.Fitting.{Fitting}
 use Rattle.holding.specs.declared.reply.Reply.{Reply}
-use Rattle.holding.specs.Replying.{replyOf}
+use Rattle.holding.specs.Inside.Replying.{replyOf}
 use Rattle.round.specs.Reply.{replyPlaces, replyRecord, replyBytes, isSent}
 use Rattle.round.proofs.Chosen.{chosen-most, reply-some, chosen-out}
-use Rattle.admission.specs.Votes.{refersTo, recordOf}
+use Rattle.admission.specs.Inside.Votes.{refersTo, recordOf}
 use Rattle.holding.proofs.Replying.{filled-front, filled-length}
 use Rattle.round.specs.Delivery.{previousPlace, Result, Delivered, processed, answered}
 use Rattle.round.specs.Holdings.{named, isVoting, graphOf}
 use Rattle.round.proofs.Marking.{previous-named, named-placed, previous-fits}
 use Rattle.protocol.specs.Ids.{Id}
 use Rattle.protocol.specs.Table.{says}
-use Rattle.judging.specs.Referring.{Referring}
+use Rattle.judging.specs.Inside.Referring.{Referring}
 use Rattle.base.specs.Tests.{_∈_, pick}
 use Rattle.round.specs.Handed.{placeFits}
 use Rattle.message.specs.Writer.{fronted}
 use Rattle.judging.proofs.Ordered.{front-part}
-use Rattle.answering.specs.Giving.{Gives, left}
+use Rattle.answering.specs.Inside.Giving.{Gives, left}
 use Rattle.round.specs.Limits.{listening}
-use Rattle.roundbytes.specs.Layout.{roundIn, Kept, roundLen}
+use Rattle.roundbytes.specs.Layout.{roundIn, roundLen}
+use Rattle.roundbytes.specs.Inside.Keeping.{Kept}
 use Rattle.round.specs.declared.Outcome.the-variants.{Accepted}
 use Rattle.protocol.specs.Message.{Message}
 use Rattle.meaning.specs.declared.Note.{Note}
-use Rattle.meaning.specs.Notes.{Judged}
+use Rattle.meaning.specs.Inside.Notes.{Judged}
 
 -- ---- z, the reply of a round to the message at place p
 module _ (r : Round) (f : Fitting r) (p : ℕ) (here : p < r .held) (z : Reply) (is : z ≡ replyOf r p) where

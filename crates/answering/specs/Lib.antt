@@ -1,2 +1,2 @@
--- What the steps of a delivery give
-pub mod Giving
+-- What only functions inside say to each other: no promise leans on it
+pub mod Inside

@@ -26,13 +26,14 @@ ghost use Rattle.round.specs.Limits.{maxHeld, listening};
 ghost use Rattle.round.specs.Rows.{messageOf};
 ghost use Rattle.round.specs.Reply.{replyBytes, isSent};
 ghost use Rattle.round.specs.Delivery.{hold, withRecent, recentWith, answered, processed};
-ghost use Rattle.roundbytes.specs.Layout.{roundLen, roundIn, Kept};
-ghost use Rattle.admission.specs.Votes.{recordOf};
-ghost use Rattle.holding.specs.Storing.{Free};
-ghost use Rattle.derive.specs.Complete.{WorkedOut};
-ghost use Rattle.judging.specs.Standing.{Passes, AtHand};
-ghost use Rattle.judging.specs.Referring.{Referring};
-ghost use Rattle.answering.specs.Giving.{Gives, left, accepts, replies, Answerable, Begun};
+ghost use Rattle.roundbytes.specs.Layout.{roundLen, roundIn};
+ghost use Rattle.roundbytes.specs.Inside.Keeping.{Kept};
+ghost use Rattle.admission.specs.Inside.Votes.{recordOf};
+ghost use Rattle.holding.specs.Inside.Storing.{Free};
+ghost use Rattle.derive.specs.Inside.Complete.{WorkedOut};
+ghost use Rattle.judging.specs.Inside.Standing.{Passes, AtHand};
+ghost use Rattle.judging.specs.Inside.Referring.{Referring};
+ghost use Rattle.answering.specs.Inside.Giving.{Gives, left, accepts, replies, Answerable, Begun};
 
 // Nothing is sent: the message at place p joins recent, unless it is a proposal.
 fn join(s: &mut [u8], p: usize) -> Outcome

@@ -115,15 +115,15 @@ module _ {A : Type 0} where
   filter-cong f g [] h = refl
   filter-cong f g (x ∷ l) h = λ i. pick (h x (List·Memᴰ·head refl) i) (x ∷ filter-cong f g l (λ y m. h y (List·Memᴰ·tail m)) i) (filter-cong f g l (λ y m. h y (List·Memᴰ·tail m)) i)
 
-  pick-head : (b : Bool) (x : A) (l : List A) → T b → x ∈ pick b (x ∷ l) l
+  pub pick-head : (b : Bool) (x : A) (l : List A) → T b → x ∈ pick b (x ∷ l) l
   pick-head true x l h = List·Memᴰ·head refl
   pick-head false x l h = absurd h
 
-  pick-tail : (b : Bool) (x y : A) (l : List A) → y ∈ l → y ∈ pick b (x ∷ l) l
+  pub pick-tail : (b : Bool) (x y : A) (l : List A) → y ∈ l → y ∈ pick b (x ∷ l) l
   pick-tail true x y l m = List·Memᴰ·tail m
   pick-tail false x y l m = m
 
-  pick-out : (b : Bool) (x y : A) (l : List A) → y ∈ pick b (x ∷ l) l → (T b × (y ≡ x)) ⊎ (y ∈ l)
+  pub pick-out : (b : Bool) (x y : A) (l : List A) → y ∈ pick b (x ∷ l) l → (T b × (y ≡ x)) ⊎ (y ∈ l)
   pick-out true x y l (List·Memᴰ·head e) = inl (tt, e)
   pick-out true x y l (List·Memᴰ·tail m) = inr m
   pick-out false x y l m = inr m

@@ -35,7 +35,7 @@ numberOf Malformed1b = 14
 numberOf Malformed2a = 15
 -- full
 numberOf Full = 16
--- learner or own acceptor number not in the graph, a lent buffer too short, a round handed in that no table can be
+-- learner or own acceptor number not in the graph, a lent buffer too short, a round handed in with a count or place outside its table, a reference not to an earlier place, or an acceptor message with none
 numberOf Argument = 17
 
 -- ---- the number of the row that was struck: "no proposal in Tran". A proposal lies beneath every message whose references are known

@@ -15,16 +15,16 @@ use Rattle.graph.specs.LearnerGraph.{LearnerGraph, isQuorum}
 use Rattle.graph.proofs.LearnerGraph.{quorum-cong}
 use Rattle.protocol.specs.Report.{undecided, decided, split}
 use Rattle.protocol.specs.Table.{Table, at, heldSigner}
-use Rattle.protocol.specs.Places.{is2aAt, ballotAt, lrnsAt, decidesAt, reportAt}
+use Rattle.protocol.specs.Inside.Places.{is2aAt, ballotAt, lrnsAt, decidesAt, reportAt}
 use Rattle.protocol.proofs.PlacesLearners.{decides-at, DecidingAt, report-at}
 use Rattle.deciding.specs.declared.Least.{Least}
 use Rattle.round.specs.Round.{Round}
 use Rattle.round.specs.declared.Report.the-variants.{Undecided, Decided, Split}
 use Rattle.round.specs.Holdings.{graphOf, signerAt, isKnown}
 use Rattle.round.specs.Report.{told}
-use Rattle.notes.specs.Layout.{WordNotes, ByteNotes, secondForm}
-use Rattle.meaning.specs.Notes.{AllNoted}
-use Rattle.deciding.specs.Deciding.{isKnown2a, isVoter, votersFor, isDeciding, lowered, leastOf}
+use Rattle.notes.specs.Inside.Layout.{WordNotes, ByteNotes, secondForm}
+use Rattle.meaning.specs.Inside.Notes.{AllNoted}
+use Rattle.deciding.specs.Inside.Deciding.{isKnown2a, isVoter, votersFor, isDeciding, lowered, leastOf}
 
 -- ---- the least of the numbers that pass
 record LeastIs (test : ℕ → Bool) (f : ℕ → ℕ) (n : ℕ) (r : Least) : Type 0 where

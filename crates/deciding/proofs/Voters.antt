@@ -10,15 +10,15 @@ use Rattle.base.specs.Sets.{has}
 use Rattle.base.specs.Ballots.{valueOf}
 use Rattle.base.proofs.Tests.{and-l, and-r}
 use Rattle.graph.specs.LearnerGraph.{isQuorum}
-use Rattle.places.specs.PlaceSets.{inSet, Covers}
+use Rattle.places.specs.Inside.PlaceSets.{inSet, Covers}
 use Rattle.places.proofs.Loops.{not-covered}
 use Rattle.places.proofs.Walks.{Passed}
 use Rattle.round.specs.Round.{Round}
 use Rattle.round.specs.Holdings.{graphOf, isKnown}
-use Rattle.notes.specs.Layout.{WordNotes, ByteNotes, secondForm}
-use Rattle.notes.specs.Index.{ballotKey, formKey, Filed, Marks}
+use Rattle.notes.specs.Inside.Layout.{WordNotes, ByteNotes, secondForm}
+use Rattle.notes.specs.Inside.Index.{ballotKey, formKey, Filed, Marks}
 use Rattle.meaning.proofs.Walking.{filed}
-use Rattle.deciding.specs.Deciding.{isVoter, votersFor, isDeciding, lowered, leastOf}
+use Rattle.deciding.specs.Inside.Deciding.{isVoter, votersFor, isDeciding, lowered, leastOf}
 use Rattle.round.specs.Limits.{maxHeld}
 
 module _ (rn : Round) (wn : WordNotes) (bn : ByteNotes) (few : rn .held ≤ maxHeld) (marks : Marks (rn .held) rn wn bn) where

@@ -1,4 +1,2 @@
--- What the report asks of the notes
-pub mod Deciding
--- What it asks of the lent arrays
-pub mod Asking
+-- What only functions inside say to each other: no promise leans on it
+pub mod Inside

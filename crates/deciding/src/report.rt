@@ -27,11 +27,11 @@ ghost use Rattle.protocol.specs.Report.{report};
 ghost use Rattle.round.specs.Holdings.{graphOf, tableOf, knownMessages};
 ghost use Rattle.round.specs.Report.{told};
 ghost use Rattle.roundbytes.specs.Layout.{roundLen, roundIn};
-ghost use Rattle.notes.specs.Layout.{octetsLen, wordNotes, byteNotes};
-ghost use Rattle.notes.specs.Asking.{Asked, Covering};
-ghost use Rattle.meaning.specs.Notes.{AllNoted};
-ghost use Rattle.deciding.specs.Deciding.{isKnown2a, isVoter, votersFor, isDeciding, isLower, lowered, leastOf};
-ghost use Rattle.deciding.specs.Asking.{Reporting};
+ghost use Rattle.notes.specs.Inside.Layout.{octetsLen, wordNotes, byteNotes};
+ghost use Rattle.notes.specs.Inside.Asking.{Asked, Covering};
+ghost use Rattle.meaning.specs.Inside.Notes.{AllNoted};
+ghost use Rattle.deciding.specs.Inside.Deciding.{isKnown2a, isVoter, votersFor, isDeciding, isLower, lowered, leastOf};
+ghost use Rattle.deciding.specs.Inside.Asking.{Reporting};
 ghost use Rattle.round.specs.Limits.{maxHeld};
 ghost use Rattle.graph.specs.Limits.{maxLearners, maskBits};
 

@@ -29,7 +29,7 @@ const HOUSE: u16 = 1;
 const BAY: u16 = 12;
 
 // No acceptor number: a round that only listens.
-const LISTENING: u16 = 256;
+const LISTENING: u32 = 256;
 
 const LIAR: u8 = 3;
 
@@ -79,7 +79,7 @@ fn plan() -> [u8; 44] {
 }
 
 // A fresh round, of a controller or listening.
-fn round_of_party(own: u16) -> Round {
+fn round_of_party(own: u32) -> Round {
     let file = plan();
     let mut bytes = [0u8; ROUND_LEN];
     let _answer = open(&file, HOUSE, BAY, own, &mut bytes);

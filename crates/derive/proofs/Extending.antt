@@ -11,17 +11,17 @@ use Rattle.round.specs.Round.{Round}
 use Rattle.round.specs.Limits.{noPlace, maxHeld}
 use Rattle.round.specs.Holdings.{graphOf, idAt, signerAt}
 use Rattle.notes.specs.declared.Worked.{Worked}
-use Rattle.notes.specs.Layout.{WordNotes, ByteNotes}
-use Rattle.notes.specs.Index.{linkAt, Filed, Marks}
-use Rattle.notes.specs.Writing.{wordsNoted, bytesNoted, FiledIn}
+use Rattle.notes.specs.Inside.Layout.{WordNotes, ByteNotes}
+use Rattle.notes.specs.Inside.Index.{linkAt, Filed, Marks}
+use Rattle.notes.specs.Inside.Writing.{wordsNoted, bytesNoted, FiledIn}
 use Rattle.notes.proofs.Fields.{WordRooms, ByteRooms}
-use Rattle.scan.specs.Arrays.{Lowest, Named, idKey, IdsIndexed}
-use Rattle.meaning.specs.Records.{tableTo, Fit}
-use Rattle.meaning.specs.Notes.{NotedBy, AllNoted}
+use Rattle.scan.specs.Inside.Arrays.{Lowest, Named, idKey, IdsIndexed}
+use Rattle.meaning.specs.Inside.Records.{tableTo, Fit}
+use Rattle.meaning.specs.Inside.Notes.{NotedBy, AllNoted}
 use Rattle.meaning.proofs.Walking.{marks-more}
 use Rattle.meaning.proofs.Passing.{pass-more}
 use Rattle.meaning.proofs.Marking.{marked-more}
-use Rattle.derive.specs.Complete.{Complete, Extended}
+use Rattle.derive.specs.Inside.Complete.{Complete, Extended}
 
 -- the names alone say that places are named
 pub named-by : (r : Round) (n : ℕ) (y y′ : ByteNotes) → y′ .names ≡ y .names → Named r n y → Named r n y′

@@ -7,10 +7,10 @@ use native.Mathlib.Omega.{arith}
 use lib.ListN.{getD}
 use lib.Seq.{getD-set-other}
 use Rattle.round.specs.Round.{Round}
-use Rattle.notes.specs.Layout.{WordNotes, ByteNotes}
-use Rattle.notes.specs.Index.{linkKey, Filed, Marks}
-use Rattle.notes.specs.Writing.{withIds, withName}
-use Rattle.meaning.specs.Records.{Fit}
+use Rattle.notes.specs.Inside.Layout.{WordNotes, ByteNotes}
+use Rattle.notes.specs.Inside.Index.{linkKey, Filed, Marks}
+use Rattle.notes.specs.Inside.Writing.{withIds, withName}
+use Rattle.meaning.specs.Inside.Records.{Fit}
 
 -- the places before n name no previous place but one before n, so the name of n changes no link of theirs
 pub marks-named : (n k : ℕ) (r : Round) (x : WordNotes) (y : ByteNotes) (idlow idhigh : List ℕ) → Fit n r → Marks n r x y → Marks n r (withIds x idlow idhigh) (withName y n k)

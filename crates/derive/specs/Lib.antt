@@ -1,2 +1,2 @@
--- The notes of a round's places are right, all of them
-pub mod Complete
+-- What only functions inside say to each other: no promise leans on it
+pub mod Inside

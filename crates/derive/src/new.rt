@@ -18,8 +18,8 @@ ghost use Rattle.round.specs.Limits.{noPlace};
 ghost use Rattle.round.specs.Holdings.{graphOf, named};
 ghost use Rattle.round.specs.Rows.{messageOf};
 ghost use Rattle.roundbytes.specs.Layout.{roundIn};
-ghost use Rattle.meaning.specs.Notes.{Judged};
-ghost use Rattle.derive.specs.Complete.{Judging};
+ghost use Rattle.meaning.specs.Inside.Notes.{Judged};
+ghost use Rattle.derive.specs.Inside.Complete.{Judging};
 
 // An acceptor message with this id that refers to these places. Who signed it and which message it names as its previous one does not matter.
 pub fn judge<'a>(

@@ -20,12 +20,12 @@ use scan::names::name_places;
 ghost use Prim.Native.Nat.{suc, _+_, _<_};
 ghost use Rattle.round.specs.Holdings.{graphOf};
 ghost use Rattle.roundbytes.specs.Layout.{roundIn};
-ghost use Rattle.notes.specs.Layout.{wordNotes, byteNotes};
-ghost use Rattle.scan.specs.Arrays.{Named};
-ghost use Rattle.meaning.specs.Records.{tableTo};
-ghost use Rattle.meaning.specs.Notes.{NotedBy, AllNoted};
-ghost use Rattle.meaning.specs.Lent.{Given, FiledTo};
-ghost use Rattle.derive.specs.Complete.{Extended, WorkedOut, OneMore};
+ghost use Rattle.notes.specs.Inside.Layout.{wordNotes, byteNotes};
+ghost use Rattle.scan.specs.Inside.Arrays.{Named};
+ghost use Rattle.meaning.specs.Inside.Records.{tableTo};
+ghost use Rattle.meaning.specs.Inside.Notes.{NotedBy, AllNoted};
+ghost use Rattle.meaning.specs.Inside.Lent.{Given, FiledTo};
+ghost use Rattle.derive.specs.Inside.Complete.{Extended, WorkedOut, OneMore};
 
 // The held message at place p, from the notes of the places before it, with the place itself among those that it reaches.
 fn note_held<'a>(

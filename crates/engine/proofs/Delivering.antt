@@ -18,7 +18,7 @@ use Rattle.round.specs.Delivery.{Delivered}
 use Rattle.round.specs.Limits.{replyLen}
 use Rattle.round.specs.Handed.{fits}
 use Rattle.round.specs.Delivery.{taken, delivery, delivered, replied, refused}
-use Rattle.answering.specs.Giving.{Gives, refusal}
+use Rattle.answering.specs.Inside.Giving.{Gives, refusal}
 use Rattle.answering.proofs.Replying.{front-none}
 
 module _ (H : List ℕ → Id) (r : Round) (b buffer : List ℕ) (x : Delivered) where

@@ -18,8 +18,8 @@ use Rattle.round.proofs.Holding.{Storable}
 use Rattle.protocol.specs.Table.{offers, heldId, heldPrevious, places, offered, Held}
 use Rattle.round.proofs.Marking.{previous-fits, returned-fitting}
 use Rattle.admission.specs.declared.rows.Vote.{Vote}
-use Rattle.judging.specs.Referring.{Referring}
-use Rattle.admission.specs.Votes.{recordOf, refersTo}
+use Rattle.judging.specs.Inside.Referring.{Referring}
+use Rattle.admission.specs.Inside.Votes.{recordOf, refersTo}
 use Rattle.round.specs.Handed.{placeFits, fits}
 use Rattle.round.specs.Holdings.{named, isVoting, isKnown, placeOf}
 use Rattle.round.specs.Rows.{full, placed}
@@ -27,18 +27,18 @@ use Rattle.round.specs.Limits.{maxHeld, listening, acceptorRoom, replyLen}
 use Rattle.round.proofs.Entering.{room-left, room-behind}
 use Rattle.round.specs.Demands.{Typed}
 use Rattle.round.proofs.Fitting.{Fitting, fits-in, fits-out}
-use Rattle.engine.specs.Entering.{enteredIn, enteredAt, Enterable, Enters}
-use Rattle.round.specs.Delivery.{returned, hold, Delivered, processed, entered}
+use Rattle.engine.specs.Inside.Entering.{Enterable, Enters}
+use Rattle.round.specs.Delivery.{returned, hold, enteredIn, enteredAt, Delivered, processed, entered}
 use Rattle.round.proofs.Named.{place-some}
 use Rattle.round.proofs.Growing.{hold-appends, hold-same, hold-fitting}
 use Rattle.base.specs.Tests.{pick}
-use Rattle.derive.specs.Complete.{WorkedOut}
-use Rattle.answering.specs.Giving.{Begun, Answerable, Gives}
+use Rattle.derive.specs.Inside.Complete.{WorkedOut}
+use Rattle.answering.specs.Inside.Giving.{Begun, Answerable, Gives}
 use Rattle.engine.proofs.Keeping.{new-worked, worked-back}
 use Rattle.admission.specs.declared.lookup.Found.{Found}
 use Rattle.roundbytes.specs.Layout.{roundIn}
-use Rattle.roundbytes.proofs.Typing.{read-typed}
-use Rattle.admission.specs.Finding.{placeFound}
+use Rattle.roundbytes.proofs.Typing.{bytesAreTyped}
+use Rattle.admission.specs.Inside.Finding.{placeFound}
 use Rattle.answering.proofs.Replying.{kept-long}
 use Rattle.graph.specs.declared.Graph.{Graph}
 
@@ -111,7 +111,7 @@ module _ (s : List ℕ) (o : Octets s) (i : Id) (f : Found) (can : Enterable s i
   r = roundIn s
 
   typed : Typed (roundIn s)
-  typed = read-typed s o (can .passes .long)
+  typed = bytesAreTyped s o (can .passes .long)
 
   fitting : Fitting (roundIn s)
   fitting = fits-out r (can .passes .fit)
@@ -139,8 +139,4 @@ module _ (s : List ℕ) (o : Octets s) (i : Id) (f : Found) (can : Enterable s i
   pub entered-gives : (H : List ℕ → Id) (x : Delivered) (before after : List ℕ) → Gives (processed H (roundIn t) p) x before after → Gives (entered H r h (placeOf r i)) x before after
   entered-gives H x before after g =
       subst (λ (q : Option ℕ). Gives (entered H r h q) x before after) (can .found)
-      (by (placeFound f) (subst (λ (k : ℕ). Gives (processed H (enteredIn r h (placeFound f)) k) x before after) (enters .place) (subst (λ (q : Round). Gives (processed H q p) x before after) (enters .round) g)))
-    where
-      by : (q : Option ℕ) → Gives (processed H (enteredIn r h q) (enteredAt r q)) x before after → Gives (entered H r h q) x before after
-      by none g = g
-      by (some k) g = g
+      (subst (λ (k : ℕ). Gives (processed H (enteredIn r h (placeFound f)) k) x before after) (enters .place) (subst (λ (q : Round). Gives (processed H q p) x before after) (enters .round) g))

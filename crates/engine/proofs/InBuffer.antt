@@ -14,8 +14,9 @@ use Rattle.round.specs.declared.Outcome.{Outcome}
 use Rattle.round.specs.declared.Outcome.the-variants as outcome
 use Rattle.round.specs.Delivery.{delivered, replied}
 use Rattle.round.proofs.OneCall.{refused-leaves-all}
-use Rattle.roundbytes.specs.Layout.{roundLen, roundBytes, roundIn, Kept}
-use Rattle.roundbytes.proofs.RoundBytes.{bytes-written-back}
+use Rattle.roundbytes.specs.Layout.{roundLen, roundBytes, roundIn}
+use Rattle.roundbytes.specs.Inside.Keeping.{Kept}
+use Rattle.roundbytes.proofs.RoundBytes.{bytesWrittenBack}
 use Rattle.engine.specs.Calls.{deliverAnswer, deliveredTo, deliverTo, replyTo}
 
 module _ (before after : List ℕ) (was : Octets before) (is : Octets after) (long : roundLen ≤ length before) (kept : Kept before after) where
@@ -25,14 +26,14 @@ module _ (before after : List ℕ) (was : Octets before) (is : Octets after) (lo
   -- the round that the bytes hold, at their front
   pub written : (next : Round) → roundIn after ≡ next → after ≡ fronted (roundBytes next) before
   written next e =
-      let front : take roundLen after ≡ roundBytes next = sym (bytes-written-back after is far) ∙ ap roundBytes e in
+      let front : take roundLen after ≡ roundBytes next = sym (bytesWrittenBack after is far) ∙ ap roundBytes e in
       let size : roundLen ≡ length (roundBytes next) = sym (length-take-le roundLen after far) ∙ ap length front in
       sym (take-append-drop roundLen after) ∙ ap₂ _++_ front (kept .1 ∙ ap (λ (n : ℕ). drop n before) size)
 
   -- the round that they held before: nothing was written
   pub unwritten : roundIn after ≡ roundIn before → after ≡ before
   unwritten e =
-      let front : take roundLen after ≡ take roundLen before = sym (bytes-written-back after is far) ∙ ap roundBytes e ∙ bytes-written-back before was long in
+      let front : take roundLen after ≡ take roundLen before = sym (bytesWrittenBack after is far) ∙ ap roundBytes e ∙ bytesWrittenBack before was long in
       sym (take-append-drop roundLen after) ∙ ap₂ _++_ front (kept .1) ∙ take-append-drop roundLen before
 
   -- after a delivery

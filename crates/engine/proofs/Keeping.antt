@@ -15,12 +15,12 @@ use Rattle.graph.specs.LearnerGraph.{LearnerGraph}
 use Rattle.graph.specs.Memory.{viewOf}
 use Rattle.protocol.specs.Table.{Table, Held}
 use Rattle.protocol.proofs.Growth.{length-tabulate}
-use Rattle.places.specs.PlaceSets.{inSet}
-use Rattle.notes.specs.Layout.{idKeys, WordNotes, ByteNotes, wordNotes, byteNotes}
-use Rattle.notes.specs.Index.{Filed, signerKey, linkKey, Marks}
-use Rattle.scan.specs.Arrays.{Named, Lowest, IdsIndexed}
-use Rattle.meaning.specs.Records.{tableTo, Fit}
-use Rattle.meaning.specs.Notes.{AllNoted}
+use Rattle.places.specs.Inside.PlaceSets.{inSet}
+use Rattle.notes.specs.Inside.Layout.{idKeys, WordNotes, ByteNotes, wordNotes, byteNotes}
+use Rattle.notes.specs.Inside.Index.{Filed, signerKey, linkKey, Marks}
+use Rattle.scan.specs.Inside.Arrays.{Named, Lowest, IdsIndexed}
+use Rattle.meaning.specs.Inside.Records.{tableTo, Fit}
+use Rattle.meaning.specs.Inside.Notes.{AllNoted}
 use Rattle.meaning.proofs.Giving.{fit-of}
 use Rattle.message.specs.Layout.{idLen, proposalKind}
 use Rattle.round.specs.Round.{Round}
@@ -32,7 +32,7 @@ use Rattle.round.proofs.Parts.{tabulate-cong}
 use Rattle.round.proofs.Fitting.{Fitting, Keeps, record-kept}
 use Rattle.round.proofs.Holding.{Storable}
 use Rattle.round.proofs.Growing.{hold-keeps, hold-appends, hold-same}
-use Rattle.derive.specs.Complete.{WorkedTo, WorkedOut}
+use Rattle.derive.specs.Inside.Complete.{WorkedTo, WorkedOut}
 
 module _ (r s : Round) (keeps : Keeps r s) where
   names-kept : (y : ByteNotes) → Named r (r .held) y → Named s (r .held) y

@@ -13,12 +13,12 @@ use Rattle.base.specs.declared.refusal.Refusal.the-variants.{OtherRound, Known,
 use Rattle.base.specs.declared.refusal.Refusal.{Refusal}
 use Rattle.protocol.specs.Table.{Held}
 use Rattle.round.specs.Delivery.{Delivered, decidedBy, entered, acceptorTaken}
-use Rattle.answering.specs.Giving.{refusal, Gives}
+use Rattle.answering.specs.Inside.Giving.{refusal, Gives}
 use Rattle.answering.proofs.Replying.{front-none}
 use Rattle.round.specs.Holdings.{placeOf}
 use Rattle.message.specs.declared.AcceptorMessage.{AcceptorMessage}
 use Rattle.judging.proofs.Voting.{recordRead, rows, sounds}
-use Rattle.judging.specs.Turning.{soundRow}
+use Rattle.judging.specs.Inside.Turning.{soundRow}
 
 pub proposal-row : (r : Round) (i : Id) (m : Proposal)
     → firstOf (proposalRows r i m) ≡ pick (otherRound r (m .house) (m .bay)) (some OtherRound) (pick (isKnownId r i) (some Known) (pick (full r i) (some Full) none))

@@ -1,5 +1,5 @@
 -- What the calls on a round in a lent buffer answer, and each byte that they write. The layout of a round is that of roundbytes. A buffer that is too
--- short for a round is 17 before all else, and a call that is turned down writes nothing.
+-- short for a round is 17: in an opening after the rows of the file, in a delivery and a report before all else. A call that is turned down writes nothing.
 use mathlib.Core.List.{List}
 use Prim.Native.Nat.{ℕ}
 use lib.Dec.{ltb}
@@ -22,12 +22,16 @@ use Rattle.roundbytes.specs.Layout.{roundLen, roundBytes, roundIn}
 use Rattle.roundbytes.specs.Opening.{openedTo}
 
 -- ---- opening: the round at the front of the buffer, or all as it was
+-- "A round opens from a graph file (checked first; 17 comes after 7)": what the file and the own number are refused for, and then the short buffer
+abbrev pub openingIn : Opening → List ℕ → Opening
+openingIn opening.Opened buffer = pick (ltb (length buffer) roundLen) (opening.Refused Argument) opening.Opened
+openingIn (opening.Refused e) buffer = opening.Refused e
+
 unfoldable pub openAnswer : List ℕ → ℕ → ℕ → ℕ → List ℕ → Opening
-openAnswer file house bay own buffer = pick (ltb (length buffer) roundLen) (opening.Refused Argument) (opened file house bay own .answer)
+openAnswer file house bay own buffer = openingIn (opened file house bay own .answer) buffer
 
 unfoldable pub openTo : List ℕ → ℕ → ℕ → ℕ → List ℕ → List ℕ
-openTo file house bay own buffer =
-    pick (ltb (length buffer) roundLen) buffer (openedTo (opened file house bay own .answer) (opened file house bay own .round) buffer)
+openTo file house bay own buffer = openedTo (openAnswer file house bay own buffer) (opened file house bay own .round) buffer
 
 -- ---- delivering a message: the next round at the front of the buffer, or all as it was
 abbrev pub deliveredTo : Outcome → Round → List ℕ → List ℕ

@@ -1,4 +1,4 @@
 -- What the calls on a round in a lent buffer answer and write
 pub mod Calls
--- A message that is taken and enters
-pub mod Entering
+-- What only functions inside say to each other: no promise leans on it
+pub mod Inside

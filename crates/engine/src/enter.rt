@@ -8,9 +8,9 @@ use holding::hold::returned;
 use roundbytes::readers::held_of;
 ghost use Rattle.protocol.specs.Table.{offers};
 ghost use Rattle.roundbytes.specs.Layout.{roundIn};
-ghost use Rattle.admission.specs.Votes.{recordOf};
-ghost use Rattle.judging.specs.Referring.{Referring};
-ghost use Rattle.engine.specs.Entering.{Enterable, Enters};
+ghost use Rattle.admission.specs.Inside.Votes.{recordOf};
+ghost use Rattle.judging.specs.Inside.Referring.{Referring};
+ghost use Rattle.engine.specs.Inside.Entering.{Enterable, Enters};
 
 // A proposal.
 pub fn enter_proposal(s: &mut [u8], id: &[u8], proposer: u8, ballot: u64, found: Found) -> usize

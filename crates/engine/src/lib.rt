@@ -29,21 +29,24 @@ ghost use lib.ListN.{length};
 ghost use Rattle.digest.specs.Sha256.{sha256};
 ghost use Rattle.round.specs.Delivery.{delivered, replied};
 ghost use Rattle.round.specs.Report.{reported};
-ghost use Rattle.roundbytes.specs.Layout.{roundLen, roundIn, Kept};
+ghost use Rattle.roundbytes.specs.Layout.{roundLen, roundIn};
+ghost use Rattle.roundbytes.specs.Inside.Keeping.{Kept};
 ghost use Rattle.engine.specs.Calls.{openAnswer, openTo, deliverAnswer, deliverTo, replyTo, reportAnswer};
 
-// Opens a round at the front of s: a graph file, a house, a bay, and an acceptor number, or LISTENING and more for none.
-pub fn open(file: &[u8], house: u16, bay: u16, own: u16, s: &mut [u8]) -> Opening
+// Opens a round at the front of s: a graph file, a house, a bay, and an acceptor number, or LISTENING for none. The file is checked first.
+pub fn open(file: &[u8], house: u16, bay: u16, own: u32, s: &mut [u8]) -> Opening
     ensures { λ a. ⌜ (a ≡ openAnswer (now (file .entry)) house bay own (now (s .entry))) × (now (s .exit) ≡ openTo (now (file .entry)) house bay own (now (s .entry))) ⌝ }
 {
-    if s.len() < ROUND_LEN {
-        return Opening::Refused(Refusal::Argument);
-    }
     let reading = read(file);
     let answer = reading.answer;
     let graph = reading.graph;
     match answer {
-        Answer::Accepted => start(graph, house, bay, own, s),
+        Answer::Accepted => {
+            if s.len() < ROUND_LEN {
+                return Opening::Refused(Refusal::Argument);
+            }
+            start(graph, house, bay, own, s)
+        }
         Answer::Refused(e) => Opening::Refused(e),
     }
 }

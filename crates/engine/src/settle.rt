@@ -15,11 +15,12 @@ use roundbytes::readers::held_of;
 ghost use Rattle.digest.specs.Sha256.{sha256};
 ghost use Rattle.round.specs.Rows.{messageOf};
 ghost use Rattle.round.specs.Delivery.{decidedBy};
-ghost use Rattle.roundbytes.specs.Layout.{roundIn, Kept};
-ghost use Rattle.admission.specs.Votes.{recordOf};
-ghost use Rattle.judging.specs.Turning.{soundRow};
-ghost use Rattle.answering.specs.Giving.{Gives, left};
-ghost use Rattle.engine.specs.Entering.{Settles};
+ghost use Rattle.roundbytes.specs.Layout.{roundIn};
+ghost use Rattle.roundbytes.specs.Inside.Keeping.{Kept};
+ghost use Rattle.admission.specs.Inside.Votes.{recordOf};
+ghost use Rattle.judging.specs.Inside.Turning.{soundRow};
+ghost use Rattle.answering.specs.Inside.Giving.{Gives, left};
+ghost use Rattle.engine.specs.Inside.Entering.{Settles};
 
 // The held messages are worked out once, for the rows and for the reply.
 pub fn settle(s: &mut [u8], id: &[u8], found: Found, vote: Vote, reply: &mut [u8]) -> Outcome

@@ -20,9 +20,10 @@ ghost use Rattle.message.specs.Reader.{reading};
 ghost use Rattle.message.specs.declared.Reading.the-variants.{OfAcceptor};
 ghost use Rattle.round.specs.Rows.{referenceIds, previousId};
 ghost use Rattle.round.specs.Delivery.{proposalTaken, acceptorTaken};
-ghost use Rattle.roundbytes.specs.Layout.{roundIn, Kept};
-ghost use Rattle.answering.specs.Giving.{Gives, left};
-ghost use Rattle.engine.specs.Entering.{Takes};
+ghost use Rattle.roundbytes.specs.Layout.{roundIn};
+ghost use Rattle.roundbytes.specs.Inside.Keeping.{Kept};
+ghost use Rattle.answering.specs.Inside.Giving.{Gives, left};
+ghost use Rattle.engine.specs.Inside.Entering.{Takes};
 
 // A proposal: rows 8, 10 and 16.
 pub fn take_proposal(s: &mut [u8], id: &[u8], m: Proposal, reply: &mut [u8]) -> Outcome

@@ -17,7 +17,8 @@ use Rattle.base.proofs.Sets.{firstOf, contains-mask, apart-mask, contains-cong,
 use Rattle.graph.specs.LearnerGraph.{LearnerGraph, common}
 use Rattle.graph.proofs.LearnerGraph.{apart-common}
 use Rattle.graph.specs.Limits.{maxMasks, maskBits}
-use Rattle.graph.specs.Memory.{triangle, within, Masks, listOf}
+use Rattle.graph.specs.Memory.{triangle, listOf}
+use Rattle.graph.specs.Inside.Asking.{within, Masks}
 
 pub triangle-half : (b : ℕ) → b * (b + 1) / 2 ≡ triangle b
 unfolding triangle

@@ -8,3 +8,5 @@ pub mod Answers
 pub mod Memory
 -- What valid and condensed mean
 pub mod Theorems
+-- What only functions inside say to each other: no promise leans on it
+pub mod Inside

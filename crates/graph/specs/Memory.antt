@@ -1,14 +1,11 @@
 -- A graph in memory: where each list is held, and the learner graph that is held.
 use mathlib.Core.List.{List}
-use Prim.Native.Nat.{ℕ, zero, suc, _+_, _*_, _^_, min, max, _<_}
+use Prim.Native.Nat.{ℕ, zero, suc, _+_, _*_, min, max}
 use mathlib.Core.Path.{_≡_}
 use lib.ListN.{length, getD}
 use lib.Seq.{slice}
-use lib.Bits.{bitAnd}
-use lib.Dec.{eqb}
-use mathlib.Core.Bool.{Bool}
 use Rattle.graph.specs.declared.Graph.{Graph}
-use Rattle.graph.specs.Limits.{maxLearners, maxMasks, maskBits, lists}
+use Rattle.graph.specs.Limits.{maxLearners, maxMasks, lists}
 use Rattle.graph.specs.LearnerGraph.{LearnerGraph}
 
 -- 1 + 2 + .. + b: the pairs a ≤ c with c below b
@@ -38,23 +35,6 @@ heldGraph n l counts masks =
 abbrev pub viewOf : Graph → LearnerGraph
 viewOf g = heldGraph (g .acceptors) (g .learners) (g .counts) (g .masks)
 
--- the mask q lies within the set, a mask too
-abbrev pub within : ℕ → ℕ → Bool
-within set q = eqb (bitAnd q set) q
-
--- masks in memory have 32 bits
-abbrev pub Masks : List ℕ → Type 0
-Masks l = (i : ℕ) → getD l i 0 < 2 ^ maskBits
-
 -- counts and masks as long as the arrays are
 abbrev pub GraphSized : List ℕ → List ℕ → Type 0
 GraphSized counts masks = (length counts ≡ lists) × (length masks ≡ maxMasks * lists)
-
--- two learners and the graph in memory whose lists are asked for:
-pub record TwoLearners (counts masks : List ℕ) (a b : ℕ) : Type 0 where
-  -- there is room for the lists of the first,
-  pub first : a < maxLearners
-  -- for those of the second,
-  pub second : b < maxLearners
-  -- and the arrays are as long as all lists together
-  pub sized : GraphSized counts masks

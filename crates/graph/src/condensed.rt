@@ -11,7 +11,8 @@ ghost use Rattle.base.specs.Tests.{any, all, below};
 ghost use Rattle.base.specs.Sets.{has, contains};
 ghost use Rattle.graph.specs.Limits.{lists, maxLearners};
 ghost use Rattle.graph.specs.LearnerGraph.{condensedAt, condensed};
-ghost use Rattle.graph.specs.Memory.{listOf, heldGraph, GraphSized, TwoLearners};
+ghost use Rattle.graph.specs.Memory.{listOf, heldGraph, GraphSized};
+ghost use Rattle.graph.specs.Inside.Asking.{TwoLearners};
 
 // The union of s and any mask of list k contains a mask of list m.
 fn joins<'a>(

@@ -14,7 +14,8 @@ ghost use Rattle.base.specs.Tests.{any};
 ghost use Rattle.base.specs.Sets.{has, contains, apart};
 ghost use Rattle.graph.specs.Limits.{lists, maxLearners, maxMasks, maskBits};
 ghost use Rattle.graph.specs.LearnerGraph.{isQuorum, safeWithout};
-ghost use Rattle.graph.specs.Memory.{within, triangle, listOf, pairList, heldGraph, GraphSized};
+ghost use Rattle.graph.specs.Memory.{triangle, listOf, pairList, heldGraph, GraphSized};
+ghost use Rattle.graph.specs.Inside.Asking.{within};
 
 // All acceptors below n. A shift by the width of a mask has no meaning, so that width is a case of its own.
 pub fn known(n: u8) -> Mask

@@ -24,7 +24,8 @@ use Rattle.graphfile.specs.declared.file.Field.{Field}
 use Rattle.graphfile.specs.declared.file.Field.the-variants as Field
 use Rattle.graphfile.specs.declared.Reading.{Reading}
 use Rattle.graphfile.specs.File.{outerLen, versionAt, acceptorsAt, learnersAt, listsAt, Got, got, no, andThen, readCount, readLists, readRows, Contents, readGraph, contents, graphSaid, answerOf, contentsAnswer}
-use Rattle.graphfile.specs.Arrays.{ListArrays, holdAll, holdRows, nothing, heldIn, heldOf, graphOfHeld, refusedReading, graphReading, contentsReading, readingOf, heldReading, answeredReading, fieldOf, HeldAfter}
+use Rattle.graphfile.specs.Arrays.{ListArrays, holdAll, holdRows, nothing, heldIn, heldOf, graphOfHeld, refusedReading, graphReading, contentsReading, readingOf, heldReading, answeredReading}
+use Rattle.graphfile.specs.Inside.Steps.{fieldOf, HeldAfter}
 use Rattle.graphfile.proofs.Reader.{graph-got, lists-got, after-got, after-no, value-no, count-is}
 use Rattle.graphfile.proofs.View.{held-same}
 use Rattle.graphfile.proofs.Accepted.{file-got}

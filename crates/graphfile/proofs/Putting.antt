@@ -16,7 +16,8 @@ use Rattle.graph.specs.Limits.{version, maxLearners, maxMasks, maskBytes, lists
 use Rattle.graph.specs.Memory.{heldGraph, listOf, pairList, triangle, GraphSized}
 use Rattle.graph.proofs.Memory.{list-is}
 use Rattle.graphfile.specs.File.{outerLen, versionAt, acceptorsAt, learnersAt, listsAt, Contents}
-use Rattle.graphfile.specs.Writer.{masksBytes, listBytes, listsBytes, rowsBytes, bodyBytes, fileBytes, listed, rowsFrom, contentsOf, fitsMask, MasksFit, PutIn}
+use Rattle.graphfile.specs.Writer.{masksBytes, listBytes, listsBytes, rowsBytes, bodyBytes, fileBytes, listed, rowsFrom, contentsOf, fitsMask}
+use Rattle.graphfile.specs.Inside.Steps.{MasksFit, PutIn}
 use Rattle.graphfile.proofs.View.{triangle-up}
 
 -- ---- a test over what is left of a list

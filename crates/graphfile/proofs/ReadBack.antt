@@ -20,7 +20,8 @@ use Rattle.graph.specs.LearnerGraph.{LearnerGraph}
 use Rattle.graph.specs.Memory.{heldGraph, listOf, viewOf}
 use Rattle.graph.specs.Theorems.{SameGraph}
 use Rattle.graphfile.specs.File.{outerLen, acceptorsAt, learnersAt, listsAt, Got, got, no, andThen, maskAnswer, readCount, readMasks, readList, readLists, readRows, readGraph, contents, graphSaid}
-use Rattle.graphfile.specs.Arrays.{heldReading, heldOf, fieldOf}
+use Rattle.graphfile.specs.Arrays.{heldReading, heldOf}
+use Rattle.graphfile.specs.Inside.Steps.{fieldOf}
 use Rattle.graphfile.specs.declared.Reading.{Reading}
 use Rattle.graphfile.specs.Writer.{masksBytes, listBytes, listsBytes, rowsBytes, bodyBytes, fileBytes, listed, rowsFrom, contentsOf, graphFile}
 use Rattle.graphfile.specs.Theorems.{ListInOrder, InOrder, ReadBack, GraphReadsBack}

@@ -23,7 +23,8 @@ use Rattle.graphfile.specs.declared.file.Field.the-variants as Field
 use Rattle.graph.specs.Limits.{maxMasks}
 use Rattle.graphfile.specs.File.{Got, got, no, andThen, afterCheck, last, maskAnswer, readCount, readMasks, readList, readLists, readRows, Contents, readGraph}
 use Rattle.graph.specs.Memory.{pairList}
-use Rattle.graphfile.specs.Arrays.{ListArrays, hold, holdAll, holdRows, fieldOf, MasksHeld, HeldAfter}
+use Rattle.graphfile.specs.Arrays.{ListArrays, hold, holdAll, holdRows}
+use Rattle.graphfile.specs.Inside.Steps.{fieldOf, MasksHeld, HeldAfter}
 
 -- ---- lists
 pub last-snoc : (d : ℕ) (l : List ℕ) (m : ℕ) → last d (l ++ (m ∷ [])) ≡ m

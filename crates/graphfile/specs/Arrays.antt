@@ -1,19 +1,16 @@
 -- How a file's lists are held in memory, and what `read` answers.
 use mathlib.Core.List.{List, [], _∷_}
-use Prim.Native.Nat.{ℕ, suc, _*_, _≤_}
-use mathlib.Core.Path.{_≡_}
-use lib.ListN.{length, getD, set, replicate}
+use Prim.Native.Nat.{ℕ, suc, _*_}
+use lib.ListN.{length, set, replicate}
 use Rattle.base.specs.Bytes.{putAt}
 use Rattle.graph.specs.declared.Answer.{Answer}
 use Rattle.graph.specs.declared.Answer.the-variants.{Accepted, Refused}
 use Rattle.graph.specs.declared.Graph.{Graph}
-use Rattle.graph.specs.Limits.{maxAcceptors, maxLearners, maxMasks, lists}
-use Rattle.graph.specs.Memory.{pairList, GraphSized}
+use Rattle.graph.specs.Limits.{maxMasks, lists}
+use Rattle.graph.specs.Memory.{pairList}
 use Rattle.graph.specs.Answers.{graphAnswer}
-use Rattle.graphfile.specs.declared.file.Field.{Field}
-use Rattle.graphfile.specs.declared.file.Field.the-variants as Field
 use Rattle.graphfile.specs.declared.Reading.{Reading}
-use Rattle.graphfile.specs.File.{mostSaid, acceptorsAt, learnersAt, listsAt, Got, got, no, Contents, contents, readGraph, graphSaid}
+use Rattle.graphfile.specs.File.{Got, got, no, Contents, contents, graphSaid}
 
 -- ---- how they are put in
 pub record ListArrays : Type 0 where
@@ -68,47 +65,7 @@ contentsReading (no r) = refusedReading (Refused r)
 abbrev pub readingOf : List ℕ → Reading
 readingOf s = contentsReading (contents s)
 
--- ---- what the steps of `read` ask
--- of the lists of a graph in memory
-pub record InMemory (counts masks : List ℕ) (learners : ℕ) : Type 0 where
-  -- there are no more learners than there is room for,
-  pub few : learners ≤ maxLearners
-  -- and the arrays have their sizes
-  pub sized : GraphSized counts masks
-
--- a file of n acceptors that is read from a place on:
-pub record ReadFrom (s : List ℕ) (at n : ℕ) : Type 0 where
-  -- it is no longer than it can say, so that places in it can be counted,
-  pub short : length s ≤ mostSaid
-  -- it does not end before the place,
-  pub inside : at ≤ length s
-  -- and a mask has room for its acceptors
-  pub acceptors : n ≤ maxAcceptors
-
--- ---- what the steps of `read` answer
--- rows 1 to 5 alone
+-- What `read_contents` answers: rows 1 to 5 alone.
 abbrev pub heldReading : Got Contents → Reading
 heldReading (got f at) = graphReading f Accepted
 heldReading (no r) = refusedReading (Refused r)
-
--- what stands before the lists is in order, and the file is what the lists behind it are; or why the file is turned down there
-abbrev pub HeadOf : List ℕ → Answer → Type 0
-HeadOf s Accepted =
-    ReadFrom s listsAt (getD s acceptorsAt 0) × (getD s learnersAt 0 ≤ maxLearners)
-    × (contents s ≡ readGraph s (getD s acceptorsAt 0) (getD s learnersAt 0) listsAt)
-HeadOf s (Refused r) = contents s ≡ no r
-
--- what was read
-abbrev pub fieldOf : Got ℕ → Field
-fieldOf (got x at) = Field.Is x
-fieldOf (no r) = Field.Refused r
-
--- the masks of a list were put in from `first` on, and the place behind is the answer
-abbrev pub MasksHeld : Got (List ℕ) → Field → ℕ → List ℕ → List ℕ → Type 0
-MasksHeld (got l next) f first before after = (f ≡ Field.Is next) × (after ≡ putAt before first l)
-MasksHeld (no r) f first before after = f ≡ Field.Refused r
-
--- what was read was put in, and the place behind is the answer
-abbrev pub HeldAfter : {A : Type 0} → Got A → (A → ListArrays) → Field → ListArrays → Type 0
-HeldAfter (got x next) put f after = (f ≡ Field.Is next) × (after ≡ put x)
-HeldAfter (no r) put f after = f ≡ Field.Refused r

@@ -6,3 +6,5 @@ pub mod Arrays
 pub mod Writer
 -- What holds of an accepted file
 pub mod Theorems
+-- What only functions inside say to each other: no promise leans on it
+pub mod Inside

@@ -1,17 +1,16 @@
 -- The graph file of a graph in memory: its bytes in the order in which File reads them, and what `write` answers.
 use mathlib.Core.Bool.{Bool, _&&_}
 use mathlib.Core.List.{List, [], _∷_, _++_}
-use mathlib.Core.Path.{_≡_}
-use Prim.Native.Nat.{ℕ, zero, suc, _+_, _-_, _^_, _≤_, _<_}
+use Prim.Native.Nat.{ℕ, zero, suc, _^_, _≤_}
 use lib.Dec.{ltb, leb}
-use lib.ListN.{length, getD, drop}
+use lib.ListN.{length, drop}
 use Rattle.base.specs.Tests.{pick, all}
-use Rattle.base.specs.Bytes.{bytes, putAt}
+use Rattle.base.specs.Bytes.{bytes}
 use Rattle.base.specs.declared.refusal.Refusal.the-variants.{Argument}
 use Rattle.graph.specs.declared.Graph.{Graph}
 use Rattle.graph.specs.Limits.{version, maxLearners, maxMasks, maskBytes}
 use Rattle.graph.specs.LearnerGraph.{LearnerGraph}
-use Rattle.graph.specs.Memory.{listOf, pairList, viewOf}
+use Rattle.graph.specs.Memory.{viewOf}
 use Rattle.graphfile.specs.declared.Written.{Written}
 use Rattle.graphfile.specs.declared.Written.the-variants.{Bytes, NotWritten}
 use Rattle.graphfile.specs.File.{outerLen, Contents}
@@ -81,32 +80,3 @@ writeAnswer g buffer = pick (writable g buffer) (Bytes (length (graphFile g))) (
 -- the buffer with the file at its front; bytes behind it keep their values, and all do where nothing is written
 abbrev pub writeTo : Graph → List ℕ → List ℕ
 writeTo g buffer = pick (writable g buffer) (graphFile g ++ drop (length (graphFile g)) buffer) buffer
-
--- ---- what the steps of `write` hold to and answer
-abbrev pub MasksFit : List ℕ → Type 0
-MasksFit masks = (i : ℕ) → getD masks i 0 < 256 ^ maskBytes
-
--- what is asked before e is put in from `at` on
-pub record Room (masks out : List ℕ) (at : ℕ) (e : List ℕ) : Type 0 where
-  -- the masks are such that a file can say them,
-  pub fit : MasksFit masks
-  -- and there is room for e
-  pub room : at + length e ≤ length out
-
--- what is so once it was put in
-pub record PutIn (e : List ℕ) (at r : ℕ) (before after : List ℕ) : Type 0 where
-  -- the place behind it is the answer,
-  pub behind : r ≡ at + length e
-  -- and it stands in the bytes, of which no other changed
-  pub held : after ≡ putAt before at e
-
--- the quorums of all learners, the row of learner a, and all rows
-module _ (counts masks : List ℕ) (learners : ℕ) where
-  abbrev pub quorumsOf : List (List ℕ)
-  quorumsOf = listed (λ a. listOf counts masks a) 0 learners
-
-  abbrev pub rowOf : ℕ → List (List ℕ)
-  rowOf a = listed (λ b. listOf counts masks (pairList a b)) a (learners - a)
-
-  abbrev pub rowsOf : List (List (List ℕ))
-  rowsOf = rowsFrom (λ a b. listOf counts masks (pairList a b)) 0 learners

@@ -19,7 +19,8 @@ ghost use Rattle.base.specs.Bytes.{be};
 ghost use Rattle.graph.specs.Limits.{lists, maxAcceptors, maxMasks, maskBytes};
 ghost use Rattle.graphfile.specs.File.{listsAt, last, maskAnswer, readCount, readMasks, readList, readLists, readRows, readGraph};
 ghost use Rattle.graph.specs.Memory.{pairList};
-ghost use Rattle.graphfile.specs.Arrays.{holdAll, holdRows, fieldOf, MasksHeld, HeldAfter, heldIn, InMemory, ReadFrom};
+ghost use Rattle.graphfile.specs.Arrays.{holdAll, holdRows, heldIn};
+ghost use Rattle.graphfile.specs.Inside.Steps.{fieldOf, MasksHeld, HeldAfter, InMemory, ReadFrom};
 
 // What a field holds, or the place behind it; or why the file is turned down there.
 pub enum Field {

@@ -27,7 +27,8 @@ ghost use Rattle.graph.specs.Limits.{maxLearners};
 ghost use Rattle.graph.specs.Answers.{graphAnswer};
 ghost use Rattle.graph.specs.Memory.{viewOf};
 ghost use Rattle.graphfile.specs.File.{listsAt, contents, answerOf, readGraph};
-ghost use Rattle.graphfile.specs.Arrays.{refusedReading, heldReading, answeredReading, readingOf, HeadOf, ReadFrom};
+ghost use Rattle.graphfile.specs.Arrays.{refusedReading, heldReading, answeredReading, readingOf};
+ghost use Rattle.graphfile.specs.Inside.Steps.{HeadOf, ReadFrom};
 ghost use Rattle.graphfile.specs.Writer.{writeAnswer, writeTo};
 
 pub const VERSION: u8 = 1;

@@ -20,8 +20,9 @@ ghost use lib.Seq.{slice};
 ghost use Rattle.base.specs.Tests.{all};
 ghost use Rattle.graph.specs.Limits.{lists};
 ghost use Rattle.graph.specs.Memory.{heldGraph, listOf, GraphSized};
-ghost use Rattle.graphfile.specs.Arrays.{InMemory};
-ghost use Rattle.graphfile.specs.Writer.{masksBytes, listBytes, listsBytes, rowsBytes, fileBytes, contentsOf, fewMasks, fitsMask, Room, PutIn, quorumsOf, rowOf, rowsOf};
+ghost use Rattle.graphfile.specs.Inside.Steps.{InMemory};
+ghost use Rattle.graphfile.specs.Writer.{masksBytes, listBytes, listsBytes, rowsBytes, fileBytes, contentsOf, fewMasks, fitsMask};
+ghost use Rattle.graphfile.specs.Inside.Steps.{Room, PutIn, quorumsOf, rowOf, rowsOf};
 
 // The masks of a file are below it.
 const MASK_END: Mask = 65536;

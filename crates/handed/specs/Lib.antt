@@ -1,2 +1,2 @@
--- What is asked where the lists of a graph are counted
-pub mod Counting
+-- What only functions inside say to each other: no promise leans on it
+pub mod Inside

@@ -30,7 +30,7 @@ ghost use Rattle.graph.specs.Limits.{maxLearners, lists};
 ghost use Rattle.round.specs.Handed.{listFits, graphFits, messageFits, fits};
 ghost use Rattle.round.specs.Limits.{maxHeld, noPlace};
 ghost use Rattle.roundbytes.specs.Layout.{roundLen, roundIn};
-ghost use Rattle.handed.specs.Counting.{Counted};
+ghost use Rattle.handed.specs.Inside.Counting.{Counted};
 
 // What a byte that counts is compared with.
 const MOST_ACCEPTORS: u8 = MAX_ACCEPTORS as u8;
@@ -164,7 +164,7 @@ pub fn fits(s: &[u8]) -> bool
     if !graph_fits(s) {
         return false;
     }
-    if !own_fits(own_of(s), acceptors_of(s)) {
+    if !own_fits(own_of(s) as u32, acceptors_of(s)) {
         return false;
     }
     let held = held_of(s);

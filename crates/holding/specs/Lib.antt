@@ -1,4 +1,2 @@
--- What is asked where a message is put behind the others
-pub mod Storing
--- A reply as code carries it
-pub mod Replying
+-- What only functions inside say to each other: no promise leans on it
+pub mod Inside

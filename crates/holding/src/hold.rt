@@ -29,9 +29,10 @@ ghost use Rattle.protocol.specs.Table.{offers};
 ghost use Rattle.round.specs.Limits.{maxHeld};
 ghost use Rattle.round.specs.Holdings.{named};
 ghost use Rattle.round.specs.Delivery.{previousPlace, withRow, hold, returned, withRecent, recentWith};
-ghost use Rattle.roundbytes.specs.Layout.{roundLen, roundIn, Kept};
-ghost use Rattle.admission.specs.Votes.{recordOf};
-ghost use Rattle.holding.specs.Storing.{Free};
+ghost use Rattle.roundbytes.specs.Layout.{roundLen, roundIn};
+ghost use Rattle.roundbytes.specs.Inside.Keeping.{Kept};
+ghost use Rattle.admission.specs.Inside.Votes.{recordOf};
+ghost use Rattle.holding.specs.Inside.Storing.{Free};
 
 // What is held of a message, but for its references, put behind the others.
 fn put_row(

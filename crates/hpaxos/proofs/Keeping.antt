@@ -1,36 +1,29 @@
--- After every list of calls the buffer holds the round that the rules lead to, and what holds of the one holds of the other.
+-- A buffer that an opening was written to holds the round opened, and after a delivery it holds the next one.
 use mathlib.Core.Path.{_≡_, refl, sym, ap, subst, _∙_}
-use mathlib.Core.List.{List, [], _∷_}
+use mathlib.Core.List.{List}
 use Prim.Native.Nat.{ℕ, _≤_}
 use native.Mathlib.Omega.{arith}
 use lib.ListN.{length, drop, length-append, length-drop}
 use borrow.Author.Tests.{le-ltb}
+use Rattle.base.specs.Bytes.{Octets}
 use Rattle.digest.specs.Sha256.{sha256}
 use Rattle.message.specs.Writer.{fronted}
 use Rattle.round.specs.Round.{Round}
-use Rattle.round.specs.declared.Opening.{Opening}
 use Rattle.round.specs.declared.Outcome.{Outcome}
 use Rattle.round.specs.declared.Outcome.the-variants as outcome
-use Rattle.round.specs.Opening.{opened}
 use Rattle.round.specs.Delivery.{delivered}
-use Rattle.round.specs.Lists.{Call, deliver, report, lastRound}
-use Rattle.round.specs.Demands.{Typed, SameCaughtIn}
+use Rattle.round.specs.Demands.{Starts, Typed}
 use Rattle.round.proofs.JustOpened.{opened-round}
 use Rattle.round.proofs.OneCall.{refused-leaves-all}
-use Rattle.round.proofs.Sha256.{sha256IsIdRule}
-use Rattle.round.proofs.Demands.{sameCaughtOverLists}
 use Rattle.roundbytes.specs.Layout.{roundLen, roundBytes, roundIn, Laid}
-use Rattle.roundbytes.proofs.RoundBytes.{round-reads-back}
-use Rattle.roundbytes.specs.Opening.{openedTo}
+use Rattle.roundbytes.proofs.RoundBytes.{roundReadsBack}
 use Rattle.engine.specs.Calls.{deliveredTo, deliverTo}
-use Rattle.engine.specs.Calls as call
-use Rattle.hpaxos.specs.Round.{seat, openTo, bytesAfter, OfBytes, RoundInBytes, SameCaughtInBytes}
 use Rattle.hpaxos.proofs.OpenedLaid.{opened-laid}
 use Rattle.hpaxos.proofs.DeliveredLaid.{delivered-laid}
 
 -- a round put to the front of a buffer is read there, and the buffer is no shorter
 front-read : (r : Round) (buffer : List ℕ) → Laid r → roundIn (fronted (roundBytes r) buffer) ≡ r
-front-read r buffer laid = round-reads-back r (drop (length (roundBytes r)) buffer) laid
+front-read r buffer laid = roundReadsBack r (drop (length (roundBytes r)) buffer) laid
 
 front-long : (e buffer : List ℕ) → length buffer ≤ length (fronted e buffer)
 front-long e buffer = omega (arith, length-append e (drop (length e) buffer), length-drop (length e) buffer)
@@ -63,32 +56,33 @@ module _ (b message reply : List ℕ) (long : roundLen ≤ length b) where
       by (outcome.Replied k) e = front-read n b laid
       by (outcome.Refused x) e = sym (refused-leaves-all sha256 (roundIn b) message reply x (sym e) .0)
 
--- ---- a list of calls
-kept : (l : List Call) (b : List ℕ) → roundLen ≤ length b → Laid (roundIn b) → Typed (roundIn b) → OfBytes l → roundIn (bytesAfter b l) ≡ lastRound sha256 (roundIn b) l
-unfolding bytesAfter OfBytes lastRound
-kept [] b long laid typed o = refl
-kept (deliver m reply ∷ l) b long laid typed o =
-    let n = delivered sha256 (roundIn b) m reply .round in
-    let (laid′, typed′) = delivered-laid (roundIn b) laid typed m reply (o .0) in
-    let same : roundIn (deliverTo b m reply) ≡ n = deliver-read b m reply long laid′ in
-    kept l (deliverTo b m reply) (deliver-long b m reply long) (subst Laid (sym same) laid′) (subst Typed (sym same) typed′) (o .1)
-    ∙ ap (λ (x : Round). lastRound sha256 x l) same
-kept (report a ∷ l) b long laid typed o = kept l b long laid typed o
+-- ---- a round that a buffer holds: as its types have it, and such that it can be laid out as bytes
+pub record Holds (b : List ℕ) (r : Round) : Type 0 where
+  pub long : roundLen ≤ length b
+  pub same : roundIn b ≡ r
+  pub laid : Laid r
+  pub typed : Typed r
 
-pub roundInBytes : RoundInBytes
-unfolding call.openTo
-roundInBytes file house bay acceptor buffer r bytes starts long l o =
-    let b = openTo file house bay acceptor buffer in
-    let laid = opened-laid file house bay (seat acceptor) r bytes starts in
-    let whole = le-ltb (length buffer) roundLen long in
-    let x = opened file house bay (seat acceptor) in
-    let front : b ≡ fronted (roundBytes r) buffer = simp whole (ap (λ (a : Opening). openedTo a (x .round) buffer) (starts .opens) ∙ ap (λ (y : Round). fronted (roundBytes y) buffer) (sym (starts .gives))) in
-    let same : roundIn b ≡ r = ap roundIn front ∙ front-read r buffer laid in
-    let far : roundLen ≤ length b = subst (λ (y : List ℕ). roundLen ≤ length y) (sym front) (omega (arith, front-long (roundBytes r) buffer)) in
-    kept l b far (subst Laid (sym same) laid) (subst Typed (sym same) (opened-round file house bay (seat acceptor) r starts .typed)) o
-    ∙ ap (λ (y : Round). lastRound sha256 y l) same
+-- a buffer that an opening was written to holds the round opened
+pub opened-holds : (file : List ℕ) (house bay own : ℕ) (buffer : List ℕ) (r : Round) → Octets file → Starts file house bay own r → roundLen ≤ length buffer
+    → Holds (fronted (roundBytes r) buffer) r
+opened-holds file house bay own buffer r bytes starts long =
+    let laid = opened-laid file house bay own r bytes starts in
+    record {
+      long = omega (arith, front-long (roundBytes r) buffer);
+      same = front-read r buffer laid;
+      laid = laid;
+      typed = opened-round file house bay own r starts .typed;
+    }
 
-pub sameCaughtInBytes : SameCaughtInBytes
-sameCaughtInBytes file house bay acceptor buffer r bytes starts long l o free =
-    subst SameCaughtIn (sym (roundInBytes file house bay acceptor buffer r bytes starts long l o))
-    (sameCaughtOverLists sha256 sha256IsIdRule file house bay (seat acceptor) r starts l free)
+-- and after a delivery it holds the next one
+pub delivered-holds : (b message reply : List ℕ) (r : Round) → Holds b r → Octets message → Holds (deliverTo b message reply) (delivered sha256 r message reply .round)
+delivered-holds b message reply r h o =
+    let (laid, typed) = delivered-laid r (h .laid) (h .typed) message reply o in
+    let next : delivered sha256 (roundIn b) message reply .round ≡ delivered sha256 r message reply .round = ap (λ (x : Round). delivered sha256 x message reply .round) (h .same) in
+    record {
+      long = deliver-long b message reply (h .long);
+      same = deliver-read b message reply (h .long) (subst Laid (sym next) laid) ∙ next;
+      laid = laid;
+      typed = typed;
+    }

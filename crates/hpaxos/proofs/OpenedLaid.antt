@@ -23,7 +23,7 @@ use Rattle.graphfile.proofs.View.{Fits, all-fits, rows-fits}
 use Rattle.graphfile.proofs.Accepted.{file-got}
 use Rattle.round.specs.Round.{Round}
 use Rattle.round.specs.Demands.{Starts}
-use Rattle.round.proofs.JustOpened.{opens}
+use Rattle.round.proofs.JustOpened.{opens, opened-own}
 use Rattle.roundbytes.specs.Layout as layout
 use Rattle.roundbytes.proofs.Typing.{be-below}
 use Rattle.hpaxos.proofs.Bounds as bounds
@@ -157,6 +157,6 @@ opened-laid file house bay own r o s =
       maskFits = masks;
       houseFits = s .houseFits;
       bayFits = s .bayFits;
-      ownFits = s .ownFits;
+      ownFits = omega (arith, opened-own file house bay own r s);
       ballotFits = bounds.below-zeros (256 ^ 8) (omega arith) 128;
     })

@@ -1,4 +1,5 @@
-// A round for callers in C, who keep it as bytes in a buffer of their own. A call answers 0, or the number of the row that turns it down.
+// A round for callers in C, who keep it as bytes in a buffer of their own. A call answers 0 or, for a delivery
+// with a reply, 256 and its length; or the number of the row that turns it down.
 use base::put8;
 use base::put64;
 use base::refusal::Refusal;
@@ -10,8 +11,9 @@ ghost use mathlib.Core.Path.{_≡_};
 ghost use Prim.Native.Nat.{_≤_};
 ghost use lib.ListN.{length};
 ghost use Rattle.message.specs.Writer.{fronted};
-ghost use Rattle.engine.specs.Calls.{deliverTo, replyTo};
-ghost use Rattle.hpaxos.specs.Round.{seat, openAnswer, openTo, deliverAnswer, reportBytes, reportAnswer, reportTo};
+ghost use Rattle.round.specs.Answers.{page};
+ghost use Rattle.engine.specs.Calls.{openTo, deliverTo, replyTo};
+ghost use Rattle.hpaxos.specs.Round.{openAnswer, deliverAnswer, pageBytes, pageLen, reportAnswer, reportTo};
 
 // What is reported,
 const UNDECIDED: u8 = 0;
@@ -32,21 +34,6 @@ const NO_REPLY: u32 = 0;
 
 const REPLY: u32 = 256;
 
-// The acceptor number of a round that listens only. A larger one is in no graph, and neither is 255.
-const LISTENING: u32 = round::LISTENING as u32;
-
-const IN_NO_GRAPH: u16 = 255;
-
-// The own acceptor number of a round, from the one that the caller gives.
-fn seat_of(acceptor: u32) -> u16
-    ensures { λ r. ⌜ r ≡ seat acceptor ⌝ }
-{
-    if LISTENING < acceptor {
-        return IN_NO_GRAPH;
-    }
-    acceptor as u16
-}
-
 // Opens a round at the front of a lent buffer.
 #[no_mangle]
 pub extern "C" fn hpaxos_open(
@@ -58,7 +45,7 @@ pub extern "C" fn hpaxos_open(
 ) -> u32
     ensures { λ r. ⌜ (r ≡ openAnswer (now (file .entry)) house bay acceptor (now (round .entry))) × (now (round .exit) ≡ openTo (now (file .entry)) house bay acceptor (now (round .entry))) ⌝ }
 {
-    match engine::open(file, house, bay, seat_of(acceptor), round) {
+    match engine::open(file, house, bay, acceptor, round) {
         Opening::Opened => 0,
         Opening::Refused(e) => number(e),
     }
@@ -76,13 +63,13 @@ pub extern "C" fn hpaxos_deliver(round: &mut [u8], message: &[u8], reply: &mut [
     }
 }
 
-fn put_report(out: &mut [u8], kind: u8, first: u64, second: u64)
-    requires { ⌜ 17 ≤ length (now out) ⌝ }
-    ensures { λ _. ⌜ now (out .exit) ≡ fronted (reportBytes kind first second) (now (out .entry)) ⌝ }
+fn put_page(out: &mut [u8], state: u8, least: u64, other: u64)
+    requires { ⌜ pageLen ≤ length (now out) ⌝ }
+    ensures { λ _. ⌜ now (out .exit) ≡ fronted (pageBytes (page state least other)) (now (out .entry)) ⌝ }
 {
-    put8(out, 0, kind);
-    put64(out, FIRST_BALLOT, first);
-    put64(out, SECOND_BALLOT, second);
+    put8(out, 0, state);
+    put64(out, FIRST_BALLOT, least);
+    put64(out, SECOND_BALLOT, other);
 }
 
 // The report for a learner, written to the front of a lent buffer.
@@ -94,9 +81,9 @@ pub extern "C" fn hpaxos_report(round: &[u8], learner: u8, out: &mut [u8]) -> u3
         return number(Refusal::Argument);
     }
     match engine::report(round, learner) {
-        Report::Undecided => put_report(out, UNDECIDED, 0, 0),
-        Report::Decided(x) => put_report(out, DECIDED, x, 0),
-        Report::Split(x, y) => put_report(out, SPLIT, x, y),
+        Report::Undecided => put_page(out, UNDECIDED, 0, 0),
+        Report::Decided(x) => put_page(out, DECIDED, x, 0),
+        Report::Split(x, y) => put_page(out, SPLIT, x, y),
         Report::Refused(e) => return number(e),
     }
     0

@@ -15,8 +15,8 @@ use Rattle.protocol.specs.Message.{Message}
 use Rattle.round.specs.Round.{Round}
 use Rattle.round.specs.Rows.{otherRound, foreign, isKnownId, lacks, unchained, acceptorRows, firstOf}
 use Rattle.order.specs.declared.rows.Row.the-variants.{Clear, Applies}
-use Rattle.order.specs.Rows.{rowOf, headRow, chainRow}
-use Rattle.judging.specs.Turning.{soundRow}
+use Rattle.order.specs.Inside.Rows.{rowOf, headRow, chainRow}
+use Rattle.judging.specs.Inside.Turning.{soundRow}
 
 -- a part from the front
 pub front-part : (n : ℕ) (l : List ℕ) → take (n - 0) (drop 0 l) ≡ take n l

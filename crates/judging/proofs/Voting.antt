@@ -11,8 +11,8 @@ use Rattle.round.specs.Round.{Round}
 use Rattle.round.specs.Limits.{maxHeld}
 use Rattle.protocol.specs.Ids.{Id}
 use Rattle.admission.specs.declared.rows.Vote.{Vote}
-use Rattle.admission.specs.Votes.{Resolves, recordOf}
-use Rattle.order.specs.Rows.{chainRow, formRow, headRow, rowOf}
+use Rattle.admission.specs.Inside.Votes.{Resolves, recordOf}
+use Rattle.order.specs.Inside.Rows.{chainRow, formRow, headRow, rowOf}
 use Rattle.round.specs.Rows.{lacks, unchained, isKnownId, voteRecord, full, otherRound, foreign, referenceIds, previousId, messageOf, firstOf, acceptorRows}
 use Rattle.base.specs.Tests.{all, _∈_}
 use Rattle.round.proofs.Arriving.{all-known, chain-placed, referred}
@@ -20,24 +20,24 @@ use Rattle.judging.proofs.Ordered.{chain-none, orElse, acceptor-row, ro
 use Rattle.round.proofs.Marking.{PlacedId, previous-named, previous-fits}
 use Rattle.round.specs.Holdings.{named, graphOf}
 use Rattle.protocol.specs.Table.{says, Held}
-use Rattle.judging.specs.Referring.{Referring}
+use Rattle.judging.specs.Inside.Referring.{Referring}
 use Rattle.round.proofs.Named.{place-some}
 use Rattle.round.specs.Handed.{placeFits}
 use Rattle.round.specs.Delivery.{previousPlace}
 use Rattle.message.specs.declared.AcceptorMessage.{AcceptorMessage}
 use Rattle.message.specs.Reader.{reading}
 use Rattle.message.specs.declared.Reading.the-variants.{OfAcceptor}
-use Rattle.admission.specs.Finding.{Listed, Bounded}
+use Rattle.admission.specs.Inside.Finding.{Listed, Bounded}
 use Rattle.message.proofs.Checks.{of-acceptor}
 use Rattle.round.proofs.Written.{counted}
-use Rattle.judging.specs.Standing.{Passes}
+use Rattle.judging.specs.Inside.Standing.{Passes}
 use Rattle.round.proofs.Fitting.{fits-out}
 use Rattle.roundbytes.specs.Layout.{roundIn}
 use Rattle.protocol.specs.Message.{Message}
-use Rattle.judging.specs.Turning.{soundRow}
+use Rattle.judging.specs.Inside.Turning.{soundRow}
 use Rattle.protocol.specs.WellFormed.{formed1b, formed2a}
 use Rattle.meaning.specs.declared.Note.{Note}
-use Rattle.meaning.specs.Notes.{Judged}
+use Rattle.meaning.specs.Inside.Notes.{Judged}
 use Rattle.base.specs.declared.refusal.Refusal.{Refusal}
 use Rattle.order.specs.declared.rows.Row.{Row}
 use Rattle.order.specs.declared.rows.Row.the-variants.{Applies, Clear}

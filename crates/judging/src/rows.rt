@@ -23,18 +23,18 @@ ghost use mathlib.Core.Path.{_≡_};
 ghost use Prim.Native.Nat.{_≤_};
 ghost use lib.ListN.{length};
 ghost use Rattle.protocol.specs.Ids.{Id};
-ghost use Rattle.meaning.specs.Notes.{Judged};
+ghost use Rattle.meaning.specs.Inside.Notes.{Judged};
 ghost use Rattle.round.specs.Limits.{maxHeld};
 ghost use Rattle.round.specs.Holdings.{graphOf, placeOf};
 ghost use Rattle.round.specs.Rows.{otherRound, foreign, isKnownId, referenceIds, previousId, lacks, unchained, messageOf, full};
 ghost use Rattle.roundbytes.specs.Layout.{roundLen, roundIn};
-ghost use Rattle.admission.specs.Finding.{Bounded, Listed, Inside, placeFound};
-ghost use Rattle.admission.specs.Votes.{recordOf, Resolves};
-ghost use Rattle.judging.specs.Standing.{AtHand};
-ghost use Rattle.judging.specs.Referring.{Referring};
-ghost use Rattle.order.specs.Rows.{rowOf, headRow, chainRow};
+ghost use Rattle.admission.specs.Inside.Finding.{Bounded, Listed, Inside, placeFound};
+ghost use Rattle.admission.specs.Inside.Votes.{recordOf, Resolves};
+ghost use Rattle.judging.specs.Inside.Standing.{AtHand};
+ghost use Rattle.judging.specs.Inside.Referring.{Referring};
+ghost use Rattle.order.specs.Inside.Rows.{rowOf, headRow, chainRow};
 ghost use Rattle.order.specs.declared.rows.Row.the-variants.{Clear};
-ghost use Rattle.judging.specs.Turning.{soundRow};
+ghost use Rattle.judging.specs.Inside.Turning.{soundRow};
 
 // Row 8.
 pub fn of_another(s: &[u8], house: u16, bay: u16) -> bool

@@ -11,7 +11,7 @@ ghost use Rattle.protocol.specs.Report.{report};
 ghost use Rattle.round.specs.Holdings.{graphOf, knownMessages};
 ghost use Rattle.round.specs.Report.{told};
 ghost use Rattle.roundbytes.specs.Layout.{roundIn};
-ghost use Rattle.judging.specs.Standing.{Passes};
+ghost use Rattle.judging.specs.Inside.Standing.{Passes};
 
 // The report for a learner of the graph.
 pub fn verdict_for<'a>(s: &'a [u8], masks: &'a [Mask], learner: usize) -> Report

@@ -5,19 +5,19 @@ use mathlib.Core.Bool.{false, _&&_}
 use mathlib.Core.List.{List}
 use Prim.Native.Nat.{ℕ, _≤_, _<_}
 use native.Mathlib.Omega.{arith}
-use lib.Dec.{T, ltb, leb, ltb→lt, leb→le}
+use lib.Dec.{T, ltb, leb, ltb→lt}
 use lib.ListN.{length, getD}
-use Rattle.base.specs.Tests.{_∈_, all, below}
-use Rattle.base.proofs.Tests.{and-l, and-r, or-out, all-out}
-use Rattle.graph.specs.Limits.{maxAcceptors, maxLearners, lists}
+use Rattle.base.specs.Tests.{_∈_, all}
+use Rattle.base.proofs.Tests.{and-r, or-out, all-out}
 use Rattle.round.specs.Round.{Round}
 use Rattle.round.specs.Holdings.{isProposalAt, referencesAt}
-use Rattle.round.specs.Handed.{listFits, graphFits, refersBack, fits}
+use Rattle.round.specs.Handed.{refersBack, fits}
 use Rattle.round.proofs.Fitting.{Fitting, fits-out, place-cases}
+use Rattle.round.proofs.GraphFits.{acceptors-fit, learners-fit}
 use Rattle.roundbytes.specs.Layout.{roundLen, roundIn}
-use Rattle.notes.specs.Layout.{Lent}
-use Rattle.meaning.specs.Records.{Fit}
-use Rattle.meaning.specs.Lent.{Given}
+use Rattle.notes.specs.Inside.Layout.{Lent}
+use Rattle.meaning.specs.Inside.Records.{Fit}
+use Rattle.meaning.specs.Inside.Lent.{Given}
 
 module _ (r : Round) where
   -- an acceptor message refers to earlier places
@@ -39,33 +39,12 @@ module _ (r : Round) where
         back = λ p l e j m. back-in p (f .back p l) e j m;
       }
 
-  -- row 17 bounds the graph's numbers
-  pub acceptors-fit : Fitting r → r .graph .acceptors ≤ maxAcceptors
-  unfolding graphFits
-  acceptors-fit f =
-      let a = leb 1 (r .graph .acceptors) in
-      let b = leb (r .graph .acceptors) maxAcceptors in
-      let d = leb 1 (r .graph .learners) in
-      let e = leb (r .graph .learners) maxLearners in
-      let g = all (listFits (r .graph)) (below lists) in
-      leb→le (r .graph .acceptors) maxAcceptors (and-r a b (and-l (a && b) d (and-l (a && b && d) e (and-l (a && b && d && e) g (f .graph)))))
-
-  pub learners-fit : Fitting r → r .graph .learners ≤ maxLearners
-  unfolding graphFits
-  learners-fit f =
-      let a = leb 1 (r .graph .acceptors) in
-      let b = leb (r .graph .acceptors) maxAcceptors in
-      let d = leb 1 (r .graph .learners) in
-      let e = leb (r .graph .learners) maxLearners in
-      let g = all (listFits (r .graph)) (below lists) in
-      leb→le (r .graph .learners) maxLearners (and-r (a && b && d) e (and-l (a && b && d && e) g (f .graph)))
-
 pub given-of : (s masks words octets : List ℕ) → roundLen ≤ length s → masks ≡ roundIn s .graph .masks → T (fits (roundIn s)) → Lent words octets → Given s masks words octets
 given-of s masks words octets long same passed lent =
     let f = fits-out (roundIn s) passed in
     record {
-      graphed = record { long = long; masks′ = same; acceptors = let a = acceptors-fit (roundIn s) f in omega arith };
-      learners = learners-fit (roundIn s) f;
+      graphed = record { long = long; masks′ = same; acceptors = let a = acceptors-fit (roundIn s .graph) (f .graph) in omega arith };
+      learners = learners-fit (roundIn s .graph) (f .graph);
       fit = fit-of (roundIn s) f;
       lent = lent;
     }

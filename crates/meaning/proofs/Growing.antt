@@ -17,19 +17,19 @@ use Rattle.protocol.specs.Ids.{Id, sameId, samePrevious}
 use Rattle.protocol.specs.Message.{Message, is1b, is2a, ballot, forks}
 use Rattle.protocol.specs.Learners.{fresh, lrns}
 use Rattle.protocol.specs.Table.{Held, offers, Table, at, heldId, heldSigner, heldPrevious, offered, places, Ordered, nodeBy, tree, reach}
-use Rattle.protocol.specs.Places.{is1bAt, is2aAt, ballotAt}
+use Rattle.protocol.specs.Inside.Places.{is1bAt, is2aAt, ballotAt}
 use Rattle.protocol.proofs.Table.{tree-is, node-cong, reach-is, reach-self, reach-le}
 use Rattle.protocol.proofs.Growth.{at-append, at-end, tree-append, reach-append, ordered-snoc, ordered-nil}
 use Rattle.protocol.proofs.Places.{is1b-at, is2a-at, ballotBy, ballot-at, forksHeld, forks-at}
 use Rattle.protocol.proofs.PlacesLearners.{lrns-at}
 use Rattle.notes.specs.declared.Worked.{Worked}
-use Rattle.places.specs.PlaceSets.{inSet}
-use Rattle.meaning.specs.Notes.{Noted, NotedBy, AllNoted, Told}
+use Rattle.places.specs.Inside.PlaceSets.{inSet}
+use Rattle.meaning.specs.Inside.Notes.{Noted, NotedBy, AllNoted, Told}
 use Rattle.places.proofs.Membership.{has-zero, in-zero}
 use Rattle.round.specs.Round.{Round}
 use Rattle.round.specs.Holdings.{isProposalAt, signerAt}
-use Rattle.notes.specs.Layout.{WordNotes, ByteNotes}
-use Rattle.notes.specs.Writing.{wordsNoted, bytesNoted, withIndex, withIds, withNames}
+use Rattle.notes.specs.Inside.Layout.{WordNotes, ByteNotes}
+use Rattle.notes.specs.Inside.Writing.{wordsNoted, bytesNoted, withIndex, withIds, withNames}
 use Rattle.notes.proofs.Fields.{WordRooms, ByteRooms}
 use Rattle.round.specs.Limits.{maxHeld}
 

@@ -10,9 +10,9 @@ use lib.Dec.{T, eqb, eqb→eq}
 use lib.ListN.{getD, set}
 use lib.Seq.{getD-set-same, getD-set-other}
 use Rattle.base.proofs.Tests.{dec-T, eq→eqb, and-in, or-l, or-r}
-use Rattle.places.specs.PlaceSets.{inSet, Column}
+use Rattle.places.specs.Inside.PlaceSets.{inSet, Column}
 use Rattle.places.proofs.Membership.{in-zero}
-use Rattle.notes.specs.Index.{Marked}
+use Rattle.notes.specs.Inside.Index.{Marked}
 use Rattle.round.specs.Limits.{maxHeld}
 
 -- a set with a place is not empty

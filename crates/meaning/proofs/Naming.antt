@@ -15,14 +15,14 @@ use Rattle.base.specs.Tests.{_∈_, pick}
 use Rattle.protocol.specs.Ids.{Id, sameId, samePrevious}
 use Rattle.protocol.specs.Table.{Held, offers, says, tabulate, heldId, heldSigner, heldPrevious, offered}
 use Rattle.protocol.proofs.Growth.{length-tabulate, at-tabulate}
-use Rattle.meaning.specs.Records.{Fit}
-use Rattle.meaning.specs.Notes.{Candidate}
+use Rattle.meaning.specs.Inside.Records.{Fit}
+use Rattle.meaning.specs.Inside.Notes.{Candidate}
 use Rattle.protocol.proofs.Ids.{sameId-law}
-use Rattle.scan.specs.Arrays.{Lowest, Named}
+use Rattle.scan.specs.Inside.Arrays.{Lowest, Named}
 use Rattle.round.specs.Round.{Round}
 use Rattle.round.specs.Limits.{noPlace, maxHeld}
 use Rattle.round.specs.Holdings.{idAt, isProposalAt, signerAt, named, referencesAt, recordAt}
-use Rattle.notes.specs.Layout.{ByteNotes}
+use Rattle.notes.specs.Inside.Layout.{ByteNotes}
 
 -- ---- the name of a place has its id
 own : (rn : Round) (i r : ℕ) → Lowest rn i (idAt rn i) r → idAt rn r ≡ idAt rn i

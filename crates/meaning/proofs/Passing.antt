@@ -15,16 +15,16 @@ use Rattle.graph.specs.LearnerGraph.{LearnerGraph}
 use Rattle.protocol.specs.Table.{Held, says, tabulate, places, Ordered}
 use Rattle.protocol.proofs.Growth.{ordered-snoc, ordered-nil, length-tabulate, at-tabulate}
 use Rattle.notes.specs.declared.Worked.{Worked}
-use Rattle.places.specs.PlaceSets.{inSet}
-use Rattle.scan.specs.Arrays.{Named}
+use Rattle.places.specs.Inside.PlaceSets.{inSet}
+use Rattle.scan.specs.Inside.Arrays.{Named}
 use Rattle.round.specs.Round.{Round}
 use Rattle.round.specs.Limits.{maxHeld, noPlace}
 use Rattle.round.specs.Holdings.{idAt, isProposalAt, signerAt, named, referencesAt, recordAt}
-use Rattle.notes.specs.Layout.{WordNotes, ByteNotes}
-use Rattle.notes.specs.Writing.{wordsNoted, bytesNoted, withIndex}
+use Rattle.notes.specs.Inside.Layout.{WordNotes, ByteNotes}
+use Rattle.notes.specs.Inside.Writing.{wordsNoted, bytesNoted, withIndex}
 use Rattle.notes.proofs.Fields.{WordRooms, ByteRooms}
-use Rattle.meaning.specs.Records.{Fit}
-use Rattle.meaning.specs.Notes.{Noted, NotedBy, AllNoted, Candidate, Told}
+use Rattle.meaning.specs.Inside.Records.{Fit}
+use Rattle.meaning.specs.Inside.Notes.{Noted, NotedBy, AllNoted, Candidate, Told}
 use Rattle.meaning.proofs.Naming.{record-signer, record-kind, record-says, record-offers, candidate}
 use Rattle.meaning.proofs.Growing.{noted-told, noted-offer, known-more}
 use Rattle.roundbytes.specs.Layout.{roundLen, roundIn}

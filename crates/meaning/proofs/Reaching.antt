@@ -16,19 +16,19 @@ use Rattle.protocol.specs.Ids.{Id, sameId}
 use Rattle.protocol.specs.Message.{ballot}
 use Rattle.protocol.specs.WellFormed.{formed1b, formed2a}
 use Rattle.protocol.specs.Table.{Held, says, Table, at, heldId, offered, places, Ordered, nodeBy, tree, reach}
-use Rattle.protocol.specs.Places.{is1bAt, is2aAt, ballotAt, formed1bAt, formed2aAt, lrnsAt}
+use Rattle.protocol.specs.Inside.Places.{is1bAt, is2aAt, ballotAt, formed1bAt, formed2aAt, lrnsAt}
 use Rattle.protocol.proofs.Table.{reach-is, reach-le}
 use Rattle.protocol.proofs.Growth.{at-append, at-end, tree-append, reach-append, ordered-snoc}
 use Rattle.protocol.proofs.Places.{is1b-at, is2a-at, ballotBy, ballot-at, formed1b-at}
 use Rattle.protocol.proofs.Places as law
 use Rattle.protocol.proofs.PlacesLearners.{formed2a-at}
-use Rattle.places.specs.PlaceSets.{inSet}
-use Rattle.scan.specs.Arrays.{highest, Beneath, isCrowding}
-use Rattle.meaning.specs.Notes.{AllNoted, Judged}
+use Rattle.places.specs.Inside.PlaceSets.{inSet}
+use Rattle.scan.specs.Inside.Arrays.{highest, Beneath, isCrowding}
+use Rattle.meaning.specs.Inside.Notes.{AllNoted, Judged}
 use Rattle.meaning.proofs.Growing.{new-message}
 use Rattle.round.specs.Round.{Round}
 use Rattle.round.specs.Holdings.{isProposalAt}
-use Rattle.notes.specs.Layout.{WordNotes, ByteNotes}
+use Rattle.notes.specs.Inside.Layout.{WordNotes, ByteNotes}
 use Rattle.round.specs.Limits.{maxHeld}
 
 denied : (r s b o : Bool) → (r && not s && b && not o) ≡ not (not r || (s || not b || o))

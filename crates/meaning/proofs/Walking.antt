@@ -11,17 +11,17 @@ use Rattle.base.specs.Tests.{below}
 use Rattle.base.specs.Sets.{has}
 use Rattle.base.specs.Ballots.{valueOf}
 use Rattle.base.proofs.Tests.{and-l, and-r, any-out, below-out}
-use Rattle.places.specs.PlaceSets.{inSet, meets, Column, Covers, Indexed}
-use Rattle.scan.specs.Arrays.{isFork, isCaught, isCrowding}
-use Rattle.voting.specs.Votes.{isVote, isRival, isBacker}
+use Rattle.places.specs.Inside.PlaceSets.{inSet, meets, Column, Covers, Indexed}
+use Rattle.scan.specs.Inside.Arrays.{isFork, isCaught, isCrowding}
+use Rattle.voting.specs.Inside.Votes.{isVote, isRival, isBacker}
 use Rattle.places.proofs.Indexing.{indexed-more}
 use Rattle.notes.specs.declared.Walks.{Walks}
 use Rattle.notes.specs.declared.Worked.{Worked}
-use Rattle.notes.specs.Writing.{wordsNoted, bytesNoted, withIndex}
+use Rattle.notes.specs.Inside.Writing.{wordsNoted, bytesNoted, withIndex}
 use Rattle.round.specs.Round.{Round}
 use Rattle.round.specs.Holdings.{isProposalAt, signerAt}
-use Rattle.notes.specs.Layout.{WordNotes, ByteNotes, firstForm, secondForm}
-use Rattle.notes.specs.Index.{signerKey, linkKey, ballotKey, formKey, Filed, Marks, Marked, Put, Backing, Walked, linkAt}
+use Rattle.notes.specs.Inside.Layout.{WordNotes, ByteNotes, firstForm, secondForm}
+use Rattle.notes.specs.Inside.Index.{signerKey, linkKey, ballotKey, formKey, Filed, Marks, Marked, Put, Backing, Walked, linkAt}
 use Rattle.round.specs.Limits.{maxHeld}
 
 -- a place is filed under the key of what is asked of it

@@ -21,15 +21,15 @@ use Rattle.protocol.specs.Message.{Message, is1b, is2a, ballot, value, forks}
 use Rattle.protocol.specs.Learners.{fresh, lrns}
 use Rattle.protocol.specs.WellFormed.{formed1b, formed2a}
 use Rattle.protocol.specs.Table.{Held, says, Table, at, heldId, heldSigner, heldPrevious, offered, Ordered, nodeBy, tree, reach}
-use Rattle.protocol.specs.Places.{is1bAt, is2aAt, ballotAt, valueAt, caughtAt, conAt, buriedAt, freshAt, lrnsAt}
+use Rattle.protocol.specs.Inside.Places.{is1bAt, is2aAt, ballotAt, valueAt, caughtAt, conAt, buriedAt, freshAt, lrnsAt}
 use Rattle.protocol.proofs.Ids.{sameId-law, samePrevious-law}
 use Rattle.protocol.proofs.Table.{reach-self}
 use Rattle.protocol.proofs.Places.{forksHeld, forks-at, caught-at, formed1b-at}
 use Rattle.protocol.proofs.PlacesLearners.{con-at, buried-at, fresh-at, lrns-at, formed2a-at}
-use Rattle.places.specs.PlaceSets.{inSet, meets}
-use Rattle.scan.specs.Arrays.{Beneath, isFork, isCaught, isCrowding}
-use Rattle.voting.specs.Votes.{isVote, voteBallot, peaksOf, isBuried, isOpposed, isBarred, isBacker, backedBy}
-use Rattle.meaning.specs.Notes.{AllNoted, Candidate, Told, Judged}
+use Rattle.places.specs.Inside.PlaceSets.{inSet, meets}
+use Rattle.scan.specs.Inside.Arrays.{Beneath, isFork, isCaught, isCrowding}
+use Rattle.voting.specs.Inside.Votes.{isVote, voteBallot, peaksOf, isBuried, isOpposed, isBarred, isBacker, backedBy}
+use Rattle.meaning.specs.Inside.Notes.{AllNoted, Candidate, Told, Judged}
 use Rattle.base.proofs.Bits.{some-bit}
 use native.Mathlib.Nat.{pow-suc}
 use Rattle.places.proofs.Membership.{has-zero}
@@ -39,7 +39,7 @@ use Rattle.meaning.proofs.Reaching as reaching
 use Rattle.meaning.proofs.Reaching.{is-true, Reached, reached-of}
 use Rattle.round.specs.Round.{Round}
 use Rattle.round.specs.Holdings.{isProposalAt}
-use Rattle.notes.specs.Layout.{WordNotes, ByteNotes, firstForm, secondForm}
+use Rattle.notes.specs.Inside.Layout.{WordNotes, ByteNotes, firstForm, secondForm}
 use Rattle.round.specs.Limits.{maxHeld}
 use Rattle.graph.specs.Limits.{maskBits}
 

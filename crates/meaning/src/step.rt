@@ -28,11 +28,11 @@ ghost use Prim.Native.Nat.{suc, _≤_, _<_};
 ghost use Rattle.base.specs.Tests.{pick};
 ghost use Rattle.round.specs.Holdings.{graphOf, isProposalAt};
 ghost use Rattle.roundbytes.specs.Layout.{roundIn};
-ghost use Rattle.notes.specs.Layout.{firstForm, secondForm, wordNotes, byteNotes};
-ghost use Rattle.scan.specs.Arrays.{Named};
-ghost use Rattle.meaning.specs.Records.{tableTo};
-ghost use Rattle.meaning.specs.Notes.{AllNoted, Told};
-ghost use Rattle.meaning.specs.Lent.{FiledTo};
+ghost use Rattle.notes.specs.Inside.Layout.{firstForm, secondForm, wordNotes, byteNotes};
+ghost use Rattle.scan.specs.Inside.Arrays.{Named};
+ghost use Rattle.meaning.specs.Inside.Records.{tableTo};
+ghost use Rattle.meaning.specs.Inside.Notes.{AllNoted, Told};
+ghost use Rattle.meaning.specs.Inside.Lent.{FiledTo};
 
 // So many, where `on`.
 fn count_if(on: bool, l: usize) -> usize

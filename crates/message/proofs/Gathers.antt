@@ -6,7 +6,7 @@ use native.Mathlib.Omega.{arith}
 use lib.ListN.{length, getD, length-append}
 use Rattle.base.specs.Bytes.{part}
 use Rattle.base.proofs.Bytes.{part-length}
-use Rattle.message.specs.Writer.{gathered}
+use Rattle.message.specs.Inside.Writing.{gathered}
 
 -- n ids are 32 * n bytes
 pub gathered-length : (n : ℕ) (ids places : List ℕ) → ((i : ℕ) → i < n → 32 * getD places i 0 + 32 ≤ length ids) → length (gathered n ids places) ≡ 32 * n

@@ -151,5 +151,5 @@ outcome-only s r (wrong-acceptor b n c l) = to-count s b n c ∙ simp (lt-ltb 0 
 outcome-only s r (disordered b n c l o) = to-count s b n c ∙ simp (lt-ltb 0 n (c .some), le-leb n 128 (c .most), eq-eqb (length s) (acceptorLen b n) l, o)
 outcome-only s r (acceptor b n a) = to-count s b n (a .counted) ∙ to-acceptor s b n (a .counted .some) (a .counted .most) (a .long) (a .ordered)
 
-pub exactly-one-outcome : ExactlyOneOutcome
-exactly-one-outcome s = (outcome-holds s, λ r o. sym (outcome-only s r o))
+pub exactlyOneOutcome : ExactlyOneOutcome
+exactlyOneOutcome s = (outcome-holds s, λ r o. sym (outcome-only s r o))

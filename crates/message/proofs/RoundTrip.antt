@@ -41,8 +41,8 @@ head-says len kind house bay signer t l h b =
 
 -- ---- proposals
 
-pub proposal-reads-back : ProposalReadsBack
-proposal-reads-back p h b x =
+pub proposalReadsBack : ProposalReadsBack
+proposalReadsBack p h b x =
     let e = headBytes 17 1 (p .house) (p .bay) (p .proposer) in
     let t = bytes 8 (p .ballot) in
     let s = proposalBytes p in
@@ -54,12 +54,12 @@ proposal-reads-back p h b x =
     to-kind s (omega arith) (omega arith) (f .version) ∙ k ∙ to-proposal s l
     ∙ (λ i. OfProposer (record { house = f .house-is i; bay = f .bay-is i; proposer = f .signer-is i; ballot = y i }))
 
-pub ballot-reads-back : BallotReadsBack
+pub ballotReadsBack : BallotReadsBack
 unfolding valueOf
-ballot-reads-back house bay proposer round value h = (omega arith, omega arith)
+ballotReadsBack house bay proposer round value h = (omega arith, omega arith)
 
-pub proposal-length-read : ProposalLength
-proposal-length-read s p e = of-proposer s p e .0 .long
+pub proposalLength : ProposalLength
+proposalLength s p e = of-proposer s p e .0 .long
 
 -- ---- acceptor messages
 
@@ -67,8 +67,8 @@ span-most : (b : Bool) → pick b 32 0 ≤ 32
 span-most true = omega arith
 span-most false = omega arith
 
-pub acceptor-reads-back : AcceptorReadsBack
-acceptor-reads-back house bay signer previous n ids a =
+pub acceptorReadsBack : AcceptorReadsBack
+acceptorReadsBack house bay signer previous n ids a =
     let b = hasPrevious previous in
     let h = headBytes (acceptorLen b n) 2 house bay signer in
     let m = marker b ∷ [] in
@@ -123,8 +123,8 @@ head-only s k o h l =
     ∙ ap (λ (x : List ℕ). x ++ part 2 s 6 ++ part 1 s 8) (take-add 4 2 s)
     ∙ ap (λ (x : List ℕ). x ++ part 2 s 4 ++ part 2 s 6 ++ part 1 s 8) (take-add 2 2 s))
 
-pub proposal-bytes-only : ProposalBytesOnly
-proposal-bytes-only s p o e =
+pub proposalBytesOnly : ProposalBytesOnly
+proposalBytesOnly s p o e =
     let (h, q) = of-proposer s p e in
     let l = h .long in
     let b : proposalBytes (proposalIn s) ≡ take 9 s ++ part 8 s 9 =
@@ -162,14 +162,14 @@ acceptor-only s b n o h =
     ∙ ap (λ (x : ℕ). headBytes x 2 (be 2 s 4) (be 2 s 6) (getD s 8 0) ++ (marker b ∷ []) ++ p ++ (n ∷ []) ++ r) l
     ∙ ap (λ (x : Bool). marked-bytes x (be 2 s 4) (be 2 s 6) (getD s 8 0) p n r) (sym named)
 
-pub acceptor-bytes-only : AcceptorBytesOnly
-acceptor-bytes-only s m o e =
+pub acceptorBytesOnly : AcceptorBytesOnly
+acceptorBytesOnly s m o e =
     let (h, q) = of-acceptor s m e in
     acceptor-only s (m .previous) (m .count) o h
     ∙ (λ i. acceptorBytes (sym q i .house) (sym q i .bay) (sym q i .signer) (previousIn s (m .previous)) (m .count) (referencesIn s (m .previous) (m .count)))
 
-pub acceptor-length-read : AcceptorLength
-acceptor-length-read s m e = let h = of-acceptor s m e .0 in go (m .previous) (h .counted .most) (h .long)
+pub acceptorLength : AcceptorLength
+acceptorLength s m e = let h = of-acceptor s m e .0 in go (m .previous) (h .counted .most) (h .long)
   where
     go : (b : Bool) → m .count ≤ 128 → length s ≡ acceptorLen b (m .count) → ((length s ≡ 11 + 32 * m .count) ⊎ (length s ≡ 43 + 32 * m .count)) × (length s ≤ 4139)
     go true k l = (inr l, omega arith)

@@ -10,3 +10,5 @@ pub mod Outcomes
 pub mod Writer
 -- What is promised beside the contracts
 pub mod Demands
+-- What only functions inside say to each other: no promise leans on it
+pub mod Inside

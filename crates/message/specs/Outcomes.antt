@@ -1,4 +1,4 @@
--- The reader's outcomes one by one: what each asks of the bytes s. That exactly one of them holds, and that it is the reader's, is the theorem `exactly-one-outcome`.
+-- The reader's outcomes one by one: what each asks of the bytes s. That exactly one of them holds, and that it is the reader's, is the theorem `exactlyOneOutcome`.
 use mathlib.Core.Path.{_≡_}
 use mathlib.Core.Bool.{Bool, true, false}
 use mathlib.Core.List.{List}

@@ -1,11 +1,9 @@
 -- The bytes of given fields, and a lent buffer that they are written to.
 use mathlib.Core.Bool.{Bool, not}
 use mathlib.Core.List.{List, [], _∷_, _++_}
-use mathlib.Core.Logic.{_⊎_}
-use mathlib.Core.Path.{_≡_}
-use Prim.Native.Nat.{ℕ, zero, suc, _+_, _*_, _-_, _≤_, _<_}
+use Prim.Native.Nat.{ℕ, _-_}
 use lib.Dec.{eqb, ltb}
-use lib.ListN.{length, getD, drop}
+use lib.ListN.{length, drop}
 use Rattle.base.specs.Tests.{pick}
 use Rattle.base.specs.Bytes.{bytes, part}
 use Rattle.base.specs.Ballots.{ballotOf}
@@ -15,7 +13,7 @@ use Rattle.message.specs.declared.Place.{Place}
 use Rattle.message.specs.declared.Place.the-variants.{At, NoPlace}
 use Rattle.message.specs.declared.Written.{Written}
 use Rattle.message.specs.declared.Written.the-variants.{Bytes, NotWritten}
-use Rattle.message.specs.Layout.{outerLen, version, proposalKind, acceptorKind, proposalLen, marker, idLen, mostReferences, acceptorLen}
+use Rattle.message.specs.Layout.{outerLen, version, proposalKind, acceptorKind, proposalLen, marker, idLen, acceptorLen}
 use Rattle.message.specs.Reader.{referenceIn}
 
 -- what every message of len bytes begins with
@@ -45,11 +43,6 @@ abbrev pub acceptorBytes : ℕ → ℕ → ℕ → List ℕ → ℕ → List ℕ
 acceptorBytes house bay signer previous n ids =
     headBytes (acceptorLen (hasPrevious previous) n) acceptorKind house bay signer ++ (marker (hasPrevious previous) ∷ []) ++ previous ++ (n ∷ []) ++ ids
 
--- the ids at the first n places of a list of places, out of a table of ids
-unfoldable pub gathered : ℕ → List ℕ → List ℕ → List ℕ
-gathered zero ids places = []
-gathered (suc n) ids places = gathered n ids places ++ part idLen ids (idLen * getD places n 0)
-
 -- a buffer with e at its front; bytes behind it keep their values
 abbrev pub fronted : List ℕ → List ℕ → List ℕ
 fronted e buffer = e ++ drop (length e) buffer
@@ -60,19 +53,6 @@ writtenTo e buffer = pick (ltb (length buffer) (length e)) buffer (fronted e buf
 
 abbrev pub wrote : List ℕ → List ℕ → Written
 wrote e buffer = pick (ltb (length buffer) (length e)) (NotWritten Argument) (Bytes (length e))
-
--- what the layers above hold to when they write an acceptor message
-pub record Writable (previous ids places buffer : List ℕ) (n : ℕ) : Type 0 where
-  -- the previous id is none or whole,
-  pub previous-id : (length previous ≡ 0) ⊎ (length previous ≡ idLen)
-  -- there are no more references than one may have,
-  pub most : n ≤ mostReferences
-  -- each has its place in the array,
-  pub listed : n ≤ length places
-  -- which is one of the table's,
-  pub within : (i : ℕ) → i < n → idLen * getD places i 0 + idLen ≤ length ids
-  -- and the message fits the buffer
-  pub room : acceptorLen (hasPrevious previous) n ≤ length buffer
 
 -- the n-th reference of the bytes s, copied to the front of a lent buffer: 17 for a buffer too short, then 1 to 4, then 17 where there is none
 abbrev pub copiedFrom : List ℕ → Place → List ℕ → List ℕ

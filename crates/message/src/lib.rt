@@ -37,7 +37,8 @@ ghost use mathlib.Core.Path.{_≡_};
 ghost use Prim.Native.Nat.{_+_, _*_, _<_};
 ghost use lib.ListN.{length};
 ghost use Rattle.message.specs.Reader.{reading, referenceIn};
-ghost use Rattle.message.specs.Writer.{Writable, acceptorBytes, fronted, gathered, proposalBytes, proposalOf, referenceAnswer, referenceTo, writtenTo, wrote};
+ghost use Rattle.message.specs.Writer.{acceptorBytes, fronted, proposalBytes, proposalOf, referenceAnswer, referenceTo, writtenTo, wrote};
+ghost use Rattle.message.specs.Inside.Writing.{Writable, gathered};
 
 pub struct Proposal {
     pub house: u16,

@@ -16,7 +16,8 @@ ghost use Prim.Native.Nat.{ℕ, _+_, _*_, _≤_, _<_};
 ghost use lib.ListN.{length, getD};
 ghost use Rattle.base.specs.Bytes.{putAt};
 ghost use Rattle.message.specs.Layout.{outerLen, signerAt, idLen};
-ghost use Rattle.message.specs.Writer.{headBytes, fronted, gathered};
+ghost use Rattle.message.specs.Writer.{headBytes, fronted};
+ghost use Rattle.message.specs.Inside.Writing.{gathered};
 
 // What a message of len bytes begins with, up to its signer.
 pub fn write_head(buf: &mut [u8], len: usize, kind: u8, house: u16, bay: u16, signer: u8)

@@ -8,7 +8,7 @@ use lib.ListN.{length, getD}
 use Rattle.base.proofs.Bytes.{part-length}
 use Rattle.base.proofs.Cuts.{getD-part}
 use Rattle.round.specs.Limits.{maxHeld}
-use Rattle.notes.specs.Layout.{idKeys, keys, WordNotes, ByteNotes, highAt, forkLowAt, forkHighAt, topsAt, idLowAt, idHighAt, keyLowAt, keyHighAt, forkedAt, wordsLen, nameSlots, learnersAt, freshAt, formsAt, octetsLen, wordNotes, byteNotes}
+use Rattle.notes.specs.Inside.Layout.{idKeys, keys, WordNotes, ByteNotes, highAt, forkLowAt, forkHighAt, topsAt, idLowAt, idHighAt, keyLowAt, keyHighAt, forkedAt, wordsLen, nameSlots, learnersAt, freshAt, formsAt, octetsLen, wordNotes, byteNotes}
 
 -- ---- what stands at a place of a column
 pub low-at : (w : List ℕ) (p : ℕ) → p < maxHeld → getD (wordNotes w .low) p 0 ≡ getD w p 0

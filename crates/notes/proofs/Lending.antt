@@ -13,10 +13,10 @@ use Rattle.base.proofs.Bytes.{part-length, putAt-whole}
 use Rattle.base.proofs.Cuts.{length-put, put-mid, cut, start, oneInto, cut-put, cut-set, cut-length, getD-part, part-part}
 use Rattle.round.specs.Limits.{maxHeld}
 use Rattle.notes.specs.declared.Worked.{Worked}
-use Rattle.places.specs.PlaceSets.{inSet, Grown}
-use Rattle.notes.specs.Layout.{idKeys, keys, WordNotes, ByteNotes, highAt, forkLowAt, forkHighAt, topsAt, idLowAt, keyLowAt, forkedAt, wordsLen, nameSlots, learnersAt, freshAt, formsAt, octetsLen, wordNotes, byteNotes}
-use Rattle.notes.specs.Index.{Put}
-use Rattle.notes.specs.Writing.{wordsNoted, bytesNoted, withIndex, FiledIn, withIds, IdFiled, withName}
+use Rattle.places.specs.Inside.PlaceSets.{inSet, Grown}
+use Rattle.notes.specs.Inside.Layout.{idKeys, keys, WordNotes, ByteNotes, highAt, forkLowAt, forkHighAt, topsAt, idLowAt, keyLowAt, forkedAt, wordsLen, nameSlots, learnersAt, freshAt, formsAt, octetsLen, wordNotes, byteNotes}
+use Rattle.notes.specs.Inside.Index.{Put}
+use Rattle.notes.specs.Inside.Writing.{wordsNoted, bytesNoted, withIndex, FiledIn, withIds, IdFiled, withName}
 
 -- the parts of the two arrays: of the words the columns, the index of the ids, that of the places, and the forking places
 abbrev idsWidth : ℕ

@@ -22,9 +22,9 @@ ghost use Prim.Native.Nat.{ℕ, _+_, _<_};
 ghost use lib.Dec.{T};
 ghost use lib.ListN.{length, getD};
 ghost use Rattle.base.specs.Bytes.{part};
-ghost use Rattle.places.specs.PlaceSets.{inSet};
-ghost use Rattle.notes.specs.Layout.{keys, secondForm, wordsLen, wordNotes};
-ghost use Rattle.notes.specs.Index.{signerKey, linkKey, ballotKey, formKey, Filed, Put, Backing, Walked};
+ghost use Rattle.places.specs.Inside.PlaceSets.{inSet};
+ghost use Rattle.notes.specs.Inside.Layout.{keys, secondForm, wordsLen, wordNotes};
+ghost use Rattle.notes.specs.Inside.Index.{signerKey, linkKey, ballotKey, formKey, Filed, Put, Backing, Walked};
 ghost use Rattle.round.specs.Limits.{maxHeld};
 
 // The keys of 1bs and of 2as.

@@ -16,7 +16,7 @@ ghost use mathlib.Core.Path.{_≡_};
 ghost use Prim.Native.Nat.{_<_};
 ghost use lib.ListN.{length, getD};
 ghost use Rattle.round.specs.Limits.{maxHeld};
-ghost use Rattle.notes.specs.Layout.{idKeys, keys, wordsLen, nameSlots, octetsLen, wordNotes, byteNotes};
+ghost use Rattle.notes.specs.Inside.Layout.{idKeys, keys, wordsLen, nameSlots, octetsLen, wordNotes, byteNotes};
 
 // ---- columns of bytes
 // The lowest place with the id of place p.

@@ -18,8 +18,8 @@ ghost use mathlib.Core.Path.{_≡_};
 ghost use Prim.Native.Nat.{_<_};
 ghost use lib.ListN.{length};
 ghost use Rattle.round.specs.Limits.{maxHeld};
-ghost use Rattle.notes.specs.Layout.{idKeys, wordsLen, nameSlots, octetsLen, wordNotes, byteNotes, Lent};
-ghost use Rattle.notes.specs.Writing.{wordsNoted, bytesNoted, FiledIn, IdFiled, withName};
+ghost use Rattle.notes.specs.Inside.Layout.{idKeys, wordsLen, nameSlots, octetsLen, wordNotes, byteNotes, Lent};
+ghost use Rattle.notes.specs.Inside.Writing.{wordsNoted, bytesNoted, FiledIn, IdFiled, withName};
 
 // What was worked out for the held message at place p is put down.
 pub fn note_down(words: &mut [u64], octets: &mut [u8], r: Worked, p: usize)

@@ -1,2 +1,2 @@
--- The order of rows 8 to 16
-pub mod Rows
+-- What only functions inside say to each other: no promise leans on it
+pub mod Inside

@@ -1,7 +1,7 @@
 // Which row applies first, where each test is handed in as what it answered.
 use base::refusal::Refusal;
 ghost use mathlib.Core.Path.{_≡_};
-ghost use Rattle.order.specs.Rows.{rowOf, headRow, chainRow, formRow};
+ghost use Rattle.order.specs.Inside.Rows.{rowOf, headRow, chainRow, formRow};
 
 // A row that applies, if one does.
 pub enum Row {

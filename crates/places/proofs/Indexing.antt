@@ -9,7 +9,7 @@ use lib.Dec.{T, eqb, eqb-refl}
 use lib.ListN.{length, set, getD}
 use lib.Seq.{getD-set-same, getD-set-other}
 use Rattle.base.proofs.Tests.{or-l, or-r}
-use Rattle.places.specs.PlaceSets.{inSet, Indexed, Grown}
+use Rattle.places.specs.Inside.PlaceSets.{inSet, Indexed, Grown}
 use Rattle.round.specs.Limits.{maxHeld}
 
 module _ (k x y j : ℕ) (low high : List ℕ) (lk : k < length low) (hk : k < length high)

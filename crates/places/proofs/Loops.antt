@@ -11,7 +11,7 @@ use lib.ListN.{length, getD, take, set}
 use lib.Seq.{take-suc, getD-set-same, getD-set-other}
 use Rattle.base.specs.Tests.{any, below}
 use Rattle.base.proofs.Tests.{same-test, not-true, and-l, and-r, and-in, any-in, any-out, below-in, below-out}
-use Rattle.places.specs.PlaceSets.{inSet, Covers}
+use Rattle.places.specs.Inside.PlaceSets.{inSet, Covers}
 use Rattle.places.proofs.Walks.{Passed}
 
 -- ---- over the numbers below a bound

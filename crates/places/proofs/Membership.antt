@@ -14,7 +14,7 @@ use Rattle.base.specs.Sets.{has}
 use Rattle.base.proofs.Tests.{same-test, not-true, eq→eqb, neqb→ne, and-in, or-l, or-r, or-out, any-in, any-out, below-in}
 use Rattle.base.proofs.Bits.{one-shl, some-bit}
 use Rattle.base.proofs.Sets.{has-or, has-and, has-one, has-below}
-use Rattle.places.specs.PlaceSets.{inSet, meets}
+use Rattle.places.specs.Inside.PlaceSets.{inSet, meets}
 use Rattle.round.specs.Limits.{maxHeld}
 use Rattle.graph.specs.Limits.{maskBits}
 

@@ -13,7 +13,7 @@ use Rattle.base.specs.Sets.{has}
 use Rattle.base.proofs.Tests.{same-test, eq→eqb, and-cong}
 use Rattle.base.proofs.Bits.{bit, bit-suc, some-bit}
 use Rattle.base.proofs.Sets.{has-and, has-below}
-use Rattle.places.specs.PlaceSets.{inSet, NoneBelow, First, Dropped}
+use Rattle.places.specs.Inside.PlaceSets.{inSet, NoneBelow, First, Dropped}
 use Rattle.places.proofs.Membership.{has-zero, in-low, in-high, in-zero, and-on, and-off}
 use Rattle.round.specs.Limits.{maxHeld}
 

@@ -1,2 +1,2 @@
--- Sets of places as two words, and arrays over the places
-pub mod PlaceSets
+-- What only functions inside say to each other: no promise leans on it
+pub mod Inside

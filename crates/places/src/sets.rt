@@ -8,7 +8,7 @@ ghost use lib.Dec.{T, eqb};
 ghost use lib.ListN.{length, getD};
 ghost use Rattle.base.specs.Sets.{has};
 ghost use Rattle.base.specs.Bytes.{part};
-ghost use Rattle.places.specs.PlaceSets.{inSet, meets, First, Dropped, Grown};
+ghost use Rattle.places.specs.Inside.PlaceSets.{inSet, meets, First, Dropped, Grown};
 ghost use Rattle.round.specs.Limits.{maxHeld};
 ghost use Rattle.graph.specs.Limits.{maskBits, maxLearners};
 

@@ -13,7 +13,7 @@ use Rattle.graph.proofs.LearnerGraph.{quorum-law}
 use Rattle.protocol.specs.Message.{Message, signer, is2a, signers, ballot}
 use Rattle.protocol.specs.Learners.{lrns}
 use Rattle.protocol.specs.Report.{votes, decides, decision}
-use Rattle.protocol.specs.Theorems.{Within}
+use Rattle.protocol.specs.Equations.{DecidesByDecision}
 use Rattle.protocol.proofs.Message.{signers-law, chosen-law}
 
 module _ (G : LearnerGraph) where
@@ -77,28 +77,22 @@ module _ (G : LearnerGraph) where
       from (q, f) = and-in (isQuorum G a (signers S)) (all (λ x. all (λ y. is2a x && lrns G x a && eqb (ballot x) (ballot y)) S) S) q
           (all-in _ S (λ x i. all-in _ S (λ y j. into x y (f x y i j))))
 
-  -- ballot x decides in K if some messages of K, all of ballot x, are a decision
-  pub decides-decision : (K : List Message) (a x : ℕ)
-      → T (decides G K a x) ↔ ((S : List Message) × Within S K × ((m : Message) → m ∈ S → ballot m ≡ x) × T (decision G a S))
-  unfolding decides
-  decides-decision K a x = (to, from)
-    where
-      to : T (decides G K a x) → (S : List Message) × Within S K × ((m : Message) → m ∈ S → ballot m ≡ x) × T (decision G a S)
-      to h = (
-        filter (votes G a x) K,
-        λ m k. filter-out (votes G a x) K k .0,
-        λ m k. votes-law a x m .0 (filter-out (votes G a x) K k .1) .1,
-        decision-law a (filter (votes G a x) K) .1 (h, λ m n i j. pair m n (votes-law a x m .0 (filter-out (votes G a x) K i .1)) (votes-law a x n .0 (filter-out (votes G a x) K j .1))),
-      )
-        where
-          pair : (m n : Message) → T (is2a m) × (ballot m ≡ x) × T (lrns G m a) → T (is2a n) × (ballot n ≡ x) × T (lrns G n a) → T (is2a m) × T (lrns G m a) × (ballot m ≡ ballot n)
-          pair m n (two, e, l) (_, d, _) = (two, l, e ∙ sym d)
+-- ---- ballot x decides in K if some messages of K, all of ballot x, are a decision
+pub decidesByDecision : DecidesByDecision
+unfolding decides
+decidesByDecision G K a x = (λ h. (filter (votes G a x) K, inside, decision-law G a (filter (votes G a x) K) .1 (h, pairs)), λ (S, w, d). from S w (decision-law G a S .0 d))
+  where
+    vote : (m : Message) → m ∈ filter (votes G a x) K → T (is2a m) × (ballot m ≡ x) × T (lrns G m a)
+    vote m i = votes-law G a x m .0 (filter-out (votes G a x) K i .1)
 
-      from : (S : List Message) × Within S K × ((m : Message) → m ∈ S → ballot m ≡ x) × T (decision G a S) → T (decides G K a x)
-      from (S, w, b, d) =
-          let (q, f) = decision-law a S .0 d in
-          let (r, i, g) = quorum-law G a (signers S) .0 q in
-          decides-law K a x .1 (r, i, λ p l t. voter f (signers-law S p .0 (g p l t)))
-        where
-          voter : {p : ℕ} → ((x y : Message) → x ∈ S → y ∈ S → T (is2a x) × T (lrns G x a) × (ballot x ≡ ballot y)) → (m : Message) × (m ∈ S) × (signer m ≡ p) → Voter K a x p
-          voter f (m, k, s) = let (two, l, _) = f m m k k in (m, w m k, two, b m k, l, s)
+    inside : (m : Message) → m ∈ filter (votes G a x) K → (m ∈ K) × (ballot m ≡ x)
+    inside m i = (filter-out (votes G a x) K i .0, vote m i .1)
+
+    pairs : (m n : Message) → m ∈ filter (votes G a x) K → n ∈ filter (votes G a x) K → T (is2a m) × T (lrns G m a) × (ballot m ≡ ballot n)
+    pairs m n i j = (vote m i .0, vote m i .2, vote m i .1 ∙ sym (vote n j .1))
+
+    from : (S : List Message) → ((m : Message) → m ∈ S → (m ∈ K) × (ballot m ≡ x)) → Decision G a S → T (decides G K a x)
+    from S w (q, f) = let (r, i, g) = quorum-law G a (signers S) .0 q in decides-law G K a x .1 (r, i, λ p l t. voter (signers-law S p .0 (g p l t)))
+      where
+        voter : {p : ℕ} → (m : Message) × (m ∈ S) × (signer m ≡ p) → Voter G K a x p
+        voter (m, k, s) = let (two, l, _) = f m m k k in (m, w m k .0, two, w m k .1, l, s)

@@ -1,7 +1,7 @@
 -- What each test of definitions 12 to 17 says, in the words of document 01: each law is an equivalence.
 use mathlib.Core.Path.{_≡_}
 use mathlib.Core.Logic.{_↔_, _≢_}
-use mathlib.Core.Bool.{_&&_}
+use mathlib.Core.Bool.{Bool, not, _&&_}
 use Prim.Native.Nat.{ℕ, _<_}
 use lib.Dec.{T, eqb, eqb→eq, ltb→lt, lt→ltb, T-not, not-T}
 use Rattle.base.specs.Tests.{_∈_, any, below}
@@ -10,7 +10,7 @@ use Rattle.base.proofs.Tests.{below-in, below-out, any-in, any-out, all-in, all
 use Rattle.graph.specs.LearnerGraph.{LearnerGraph, isQuorum}
 use Rattle.graph.proofs.LearnerGraph.{quorum-law, without-law}
 use Rattle.protocol.specs.Message.{Message, signer, is1b, is2a, tran, ballot, value, caught}
-use Rattle.protocol.specs.Learners.{con, overrides, buriesBy, buriedBy, ownVote, standsBy, con2aBy, con2asBy, sameValue, freshBy, backsBy, backersBy, lrns, buried, con2as, fresh, backers}
+use Rattle.protocol.specs.Learners.{con, buriedBy, con2asBy, freshBy, backersBy, lrns, buried, con2as, fresh, backers}
 use Rattle.protocol.proofs.Message.{chosen-law}
 use Rattle.protocol.proofs.Knot.{lrns-is}
 
@@ -28,15 +28,15 @@ module _ (G : LearnerGraph) where
   Buried b m y = (z : Message) × (z ∈ tran y) × T (is2a z) × T (lrns G z b) × (ballot m < ballot z) × (value z ≢ value m)
 
   pub buried-law : (b : ℕ) (m y : Message) → T (buried G b m y) ↔ Buried b m y
-  unfolding buriedBy buriesBy overrides
+  unfolding buriedBy
   buried-law b m y = (to, from)
     where
       to : T (buried G b m y) → Buried b m y
-      to h = let (z, k, c) = any-out (buriesBy (lrns G) b m) (tran y) h in
+      to h = let (z, k, c) = any-out _ (tran y) h in
           (z, k, search (and-l, and-r), search (and-l, and-r), ltb→lt _ _ (search (and-l, and-r)), neqb→ne _ _ (search (and-l, and-r)))
 
       from : Buried b m y → T (buried G b m y)
-      from (z, k, two, l, lt, ne) = any-in (buriesBy (lrns G) b m) k (search (and-in, lt→ltb, ne→neqb))
+      from (z, k, two, l, lt, ne) = any-in _ k (search (and-in, lt→ltb, ne→neqb))
 
   -- m is in Con2as_a(y): a 2a in Tran(y), of the signer of y, with some b in both lrns(m) and Con_a(y) for which Buried_b(m, y) fails
   abbrev pub Con2a : ℕ → Message → Message → Type 0
@@ -44,30 +44,33 @@ module _ (G : LearnerGraph) where
       × ((b : ℕ) × (b < G .learners) × T (lrns G m b) × T (con G a y b) × (T (buried G b m y) → ⊥))
 
   pub con2as-law : (a : ℕ) (y m : Message) → m ∈ con2as G a y ↔ Con2a a y m
-  unfolding con2asBy con2aBy ownVote standsBy
+  unfolding con2asBy
   con2as-law a y m = (to, from)
     where
+      stands : ℕ → Bool
+      stands b = lrns G m b && con G a y b && not (buried G b m y)
+
       to : m ∈ con2as G a y → Con2a a y m
       to h =
-          let (k, c) = filter-out (con2aBy G (lrns G) a y) (tran y) h in
-          let t : T (any (standsBy G (lrns G) a y m) (below (G .learners))) = search (and-l, and-r) in
-          let (b, l, d) = any-out (standsBy G (lrns G) a y m) (below (G .learners)) t in
+          let (k, c) = filter-out _ (tran y) h in
+          let t : T (any stands (below (G .learners))) = search (and-l, and-r) in
+          let (b, l, d) = any-out stands (below (G .learners)) t in
           (k, search (and-l, and-r), eqb→eq _ _ (search (and-l, and-r)), (b, below-out _ l, search (and-l, and-r), search (and-l, and-r), T-not (buried G b m y) (search (and-l, and-r))))
 
       from : Con2a a y m → m ∈ con2as G a y
       from (k, two, e, (b, l, x, c, n)) =
-          let d : T (standsBy G (lrns G) a y m b) = search (and-in, not-T) in
-          let t : T (any (standsBy G (lrns G) a y m) (below (G .learners))) = any-in (standsBy G (lrns G) a y m) (below-in _ l) d in
+          let d : T (stands b) = search (and-in, not-T) in
+          let t : T (any stands (below (G .learners))) = any-in stands (below-in _ l) d in
           let q : T (eqb (signer m) (signer y)) = eq→eqb e in
-          filter-in (con2aBy G (lrns G) a y) k (search and-in)
+          filter-in _ k (search and-in)
 
   -- y is fresh for a: every m of Con2as_a(y) has V(m) = V(y)
   pub fresh-law : (a : ℕ) (y : Message) → T (fresh G a y) ↔ ((m : Message) → Con2a a y m → value m ≡ value y)
-  unfolding freshBy sameValue
+  unfolding freshBy
   fresh-law a y = (to, from)
     where
       to : T (fresh G a y) → (m : Message) → Con2a a y m → value m ≡ value y
-      to h m c = eqb→eq _ _ (all-out (sameValue y) (con2as-law a y m .1 c) h)
+      to h m c = eqb→eq _ _ (all-out _ (con2as-law a y m .1 c) h)
 
       from : ((m : Message) → Con2a a y m → value m ≡ value y) → T (fresh G a y)
       from f = all-in _ _ (λ m k. eq→eqb (f m (con2as-law a y m .0 k)))
@@ -77,17 +80,17 @@ module _ (G : LearnerGraph) where
   Backer a m p = (y : Message) × (y ∈ tran m) × T (is1b y) × T (fresh G a y) × (ballot y ≡ ballot m) × (signer y ≡ p)
 
   pub backers-law : (a : ℕ) (m : Message) (p : ℕ) → T (backers G a m p) ↔ Backer a m p
-  unfolding backersBy backsBy
+  unfolding backersBy
   backers-law a m p = (to, from)
     where
       to : T (backers G a m p) → Backer a m p
-      to h = let (y, k, c, e) = chosen-law (backsBy G (lrns G) a m) (tran m) p .0 h in
+      to h = let (y, k, c, e) = chosen-law _ (tran m) p .0 h in
           (y, k, search (and-l, and-r), search (and-l, and-r), eqb→eq _ _ (search (and-l, and-r)), e)
 
       from : Backer a m p → T (backers G a m p)
       from (y, k, one, f, e, s) =
           let e′ : T (eqb (ballot y) (ballot m)) = eq→eqb e in
-          chosen-law (backsBy G (lrns G) a m) (tran m) p .1 (y, k, search and-in, s)
+          chosen-law _ (tran m) p .1 (y, k, search and-in, s)
 
   -- a is in lrns(m): m is a 2a, and every acceptor of some listed quorum of a is such a signer
   abbrev pub Learns : Message → ℕ → Type 0

@@ -11,7 +11,7 @@ use Rattle.base.specs.Ballots.{valueOf}
 use Rattle.graph.specs.LearnerGraph.{LearnerGraph, isQuorum, safeWithout}
 use Rattle.protocol.specs.Ids.{sameId, samePrevious}
 use Rattle.protocol.specs.Message.{listed, idOf, signer, previous, references, isProposal, proposed, is1b, is2a, signers, tran, largest, ballot, value, forks, caughtIn, caught}
-use Rattle.protocol.specs.Learners.{con, overrides, buriesBy, buriedBy, ownVote, standsBy, con2aBy, con2asBy, sameValue, freshBy, backsBy, backersBy, lrnsBy, height, lrnsIn, lrns, buried, fresh}
+use Rattle.protocol.specs.Learners.{con, buriedBy, con2asBy, freshBy, backersBy, lrnsBy, height, lrnsIn, lrns, buried, fresh}
 use Rattle.protocol.specs.WellFormed.{alone, formed1b}
 use Rattle.protocol.specs.Report.{least, others, split, against, verdict}
 use Rattle.protocol.specs.Table.{offers, says, Table, at, places, gather, nodeBy, treeIn, tree, messages, allHeld}
@@ -51,12 +51,12 @@ caught-in-tran = tt
 -- "Burying by a higher 2a of the same value": the 2a at place 8 is higher than that at place 3, for both learners, and has the same value, so it
 -- buries nothing and the 1b of acceptor 0 is fresh for no learner.
 pub same-value-buries-not : T (lrns G (tree t 8) 0 && not (buried G 0 (tree t 3) (tree t 10)) && not (fresh G 0 (tree t 10)) && not (fresh G 1 (tree t 10)))
-unfolding any all filter below has contains apart isQuorum safeWithout sameId samePrevious listed idOf signer previous references isProposal proposed is1b is2a signers tran largest ballot valueOf value forks caughtIn caught con overrides buriesBy buriedBy ownVote standsBy con2aBy con2asBy sameValue freshBy backsBy backersBy lrnsBy height lrnsIn lrns at places gather nodeBy treeIn tree
+unfolding any all filter below has contains apart isQuorum safeWithout sameId samePrevious listed idOf signer previous references isProposal proposed is1b is2a signers tran largest ballot valueOf value forks caughtIn caught con buriedBy con2asBy freshBy backersBy lrnsBy height lrnsIn lrns at places gather nodeBy treeIn tree
 same-value-buries-not = tt
 
 -- ".. or Con2as from other signers": acceptor 2 saw the 2a of acceptor 1, of another value, and has none of its own: its 1b is fresh.
 pub others-bind-not : T (any (λ m. is2a m && lrns G m 0 && not (eqb (value m) (value (tree t 11)))) (tran (tree t 11)) && fresh G 0 (tree t 11) && fresh G 1 (tree t 11))
-unfolding any all filter below has contains apart isQuorum safeWithout sameId samePrevious listed idOf signer previous references isProposal proposed is1b is2a signers tran largest ballot valueOf value forks caughtIn caught con overrides buriesBy buriedBy ownVote standsBy con2aBy con2asBy sameValue freshBy backsBy backersBy lrnsBy height lrnsIn lrns at places gather nodeBy treeIn tree
+unfolding any all filter below has contains apart isQuorum safeWithout sameId samePrevious listed idOf signer previous references isProposal proposed is1b is2a signers tran largest ballot valueOf value forks caughtIn caught con buriedBy con2asBy freshBy backersBy lrnsBy height lrnsIn lrns at places gather nodeBy treeIn tree
 others-bind-not = tt
 
 -- the ballot is the largest in Tran, not that of the first proposal there; and a well-formed 1b may have other ballots beneath it

@@ -12,7 +12,7 @@ use Rattle.base.specs.Tests.{_∈_}
 use Rattle.base.proofs.Tests.{and-l, and-r, and-in, eq→eqb, same-test}
 use Rattle.protocol.specs.Message.{Message, idOf, signer, previous, references, isAcceptor, tran, caught}
 use Rattle.protocol.specs.Table.{Table, tree, messages}
-use Rattle.protocol.specs.Places.{caughtAt}
+use Rattle.protocol.specs.Inside.Places.{caughtAt}
 use Rattle.protocol.specs.Theorems.{Chained, ChainedAt, NoCollision}
 use Rattle.protocol.specs.November.{inPrevTran, unconnected, caughtNovember, SameCaught}
 use Rattle.protocol.proofs.Message.{pairs-law, tran-closed, reference-beneath, beneath-closed}

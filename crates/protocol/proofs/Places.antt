@@ -12,7 +12,7 @@ use Rattle.protocol.specs.Ids.{sameId, samePrevious}
 use Rattle.protocol.specs.Message.{Message, listed, idOf, signer, references, isProposal, proposed, is1b, is2a, signers, tran, trans, largest, ballot, forks, caughtIn, caught}
 use Rattle.protocol.specs.WellFormed.{alone, formed1b}
 use Rattle.protocol.specs.Table.{Held, offers, says, Table, at, heldId, heldSigner, heldPrevious, offered, places, Ordered, gather, nodeBy, tree, reach}
-use Rattle.protocol.specs.Places.{is1bAt, is2aAt, ballotAt, caughtAt, formed1bAt}
+use Rattle.protocol.specs.Inside.Places.{is1bAt, is2aAt, ballotAt, caughtAt, formed1bAt}
 use Rattle.protocol.proofs.Ids.{sameId-law}
 use Rattle.protocol.proofs.Table.{tree-is, tree-id, tree-signer, tree-previous, tree-proposal}
 use Rattle.protocol.proofs.Loops.{any-tran, all-beneath}

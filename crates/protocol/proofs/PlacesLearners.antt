@@ -2,22 +2,23 @@
 -- well-formed 2as, decisions and the report.
 use mathlib.Core.Path.{_≡_, refl, sym, ap, subst, _∙_}
 use mathlib.Core.Logic.{_↔_}
-use mathlib.Core.Bool.{not, _&&_, _||_}
+use mathlib.Core.Bool.{Bool, not, _&&_, _||_, and-assoc}
 use mathlib.Core.List.{List, map}
 use Prim.Native.Nat.{ℕ, _≤_}
 use lib.Dec.{T, eqb, ltb, eqb-refl, not-T}
 use Rattle.base.specs.Tests.{_∈_, any, all, filter, below}
 use Rattle.base.proofs.Tests.{and-l, and-cong, or-r, any-filter, all-filter, any-map}
 use Rattle.graph.specs.LearnerGraph.{LearnerGraph, isQuorum, safeWithout}
-use Rattle.protocol.specs.Message.{Message, signer, is2a, signers, tran, ballot, value}
-use Rattle.protocol.specs.Learners.{con, overrides, buriesBy, buriedBy, ownVote, standsBy, con2aBy, con2asBy, sameValue, freshBy, backsBy, backersBy, lrns, backers}
+use Rattle.protocol.specs.Message.{Message, signer, is1b, is2a, signers, tran, ballot, value}
+use Rattle.protocol.specs.Learners.{con, buriedBy, con2asBy, freshBy, backersBy, lrns, buried, fresh, backers}
 use Rattle.protocol.specs.WellFormed.{formed2a}
 use Rattle.protocol.specs.Report.{votes, decides, Verdict}
 use Rattle.protocol.specs.Table.{Table, at, heldSigner, Ordered, tree, messages, reach}
-use Rattle.protocol.specs.Places.{is1bAt, is2aAt, ballotAt, valueAt, caughtAt, conAt, buriedAt, freshAt, lrnsAt, formed2aAt, decidesAt, reportAt}
+use Rattle.protocol.specs.Equations.{Says}
+use Rattle.protocol.specs.Inside.Places.{is1bAt, is2aAt, ballotAt, valueAt, caughtAt, conAt, buriedAt, freshAt, lrnsAt, formed2aAt, decidesAt, reportAt}
 use Rattle.protocol.proofs.Message.{2a-law}
 use Rattle.protocol.proofs.Knot.{lrns-is}
-use Rattle.protocol.proofs.Report.{Says, says-cong, Deciding, report-law}
+use Rattle.protocol.proofs.Report.{says-cong, Deciding, report-law}
 use Rattle.protocol.proofs.Table.{tree-signer}
 use Rattle.protocol.proofs.Tables.{messages-in, messages-out}
 use Rattle.protocol.proofs.Loops.{any-beneath, all-beneath}
@@ -35,31 +36,40 @@ module _ (t : Table) (G : LearnerGraph) (ord : Ordered t) (i n : ℕ) (l : i ≤
   -- ---- Buried, at a 1b
   pub buried-at : T (is1bAt t i) → (b j : ℕ)
       → buriedAt t G b j i ≡ any (λ k. reach t i k && (is2aAt t k && lrnsAt t G k b && (ltb (ballotAt t j) (ballotAt t k) && not (eqb (valueAt t k) (valueAt t j))))) (below n)
-  unfolding buriedBy buriesBy overrides
-  buried-at one b j = any-beneath t ord i (buriesBy (lrns G) b (tree t j)) (not-T (buriesBy (lrns G) b (tree t j) (tree t i)) (λ h. 2a-law (tree t i) .0 (search and-l) .1 one)) n l
+  unfolding buriedBy
+  buried-at one b j =
+      any-beneath t ord i buries (not-T (buries (tree t i)) (λ h. 2a-law (tree t i) .0 (search and-l) .1 one)) n l
+      ∙ (λ e. any (λ k. reach t i k && and-assoc (is2aAt t k && lrnsAt t G k b) (ltb (ballotAt t j) (ballotAt t k)) (not (eqb (valueAt t k) (valueAt t j))) e) (below n))
+    where
+      buries : Message → Bool
+      buries z = is2a z && lrns G z b && ltb (ballotAt t j) (ballot z) && not (eqb (value z) (valueAt t j))
 
   -- ---- fresh, at a 1b: every 2a that i reaches, of its signer, with a learner that is connected and for which it is not buried, has the
   -- value of i
   pub fresh-at : T (is1bAt t i) → (a : ℕ)
       → freshAt t G a i ≡ all (λ j. not (reach t i j) || (not (is2aAt t j && eqb (heldSigner (at t j)) (heldSigner (at t i))
       && any (λ b. lrnsAt t G j b && conAt t G a i b && not (buriedAt t G b j i)) (below (G .learners))) || eqb (valueAt t j) (valueAt t i))) (below n)
-  unfolding freshBy sameValue con2asBy con2aBy ownVote standsBy
+  unfolding freshBy con2asBy
   fresh-at one a =
-      all-filter (λ m. eqb (value m) (value (tree t i))) (con2aBy G (lrns G) a (tree t i)) (tran (tree t i))
-      ∙ all-beneath t ord i (λ m. not (con2aBy G (lrns G) a (tree t i) m) || eqb (value m) (value (tree t i)))
-      (or-r (not (con2aBy G (lrns G) a (tree t i) (tree t i))) (eqb (valueAt t i) (valueAt t i)) (eqb-refl (valueAt t i))) n l
+      all-filter (λ m. eqb (value m) (valueAt t i)) counts (tran (tree t i))
+      ∙ all-beneath t ord i (λ m. not (counts m) || eqb (value m) (valueAt t i)) (or-r (not (counts (tree t i))) (eqb (valueAt t i) (valueAt t i)) (eqb-refl (valueAt t i))) n l
       ∙ (λ e. all (λ j. not (reach t i j) || (not (is2aAt t j && eqb (tree-signer t j e) (tree-signer t i e)
       && any (λ b. lrnsAt t G j b && conAt t G a i b && not (buriedAt t G b j i)) (below (G .learners))) || eqb (valueAt t j) (valueAt t i))) (below n))
+    where
+      counts : Message → Bool
+      counts m = is2a m && eqb (signer m) (signer (tree t i)) && any (λ b. lrns G m b && conAt t G a i b && not (buried G b m (tree t i))) (below (G .learners))
 
   -- ---- lrns: the signers of the 1bs that i reaches, fresh for a and of the ballot of i, are a quorum of a
   backers-at : T (is2aAt t i) → (a p : ℕ)
       → backers G a (tree t i) p ≡ any (λ j. reach t i j && (is1bAt t j && freshAt t G a j && eqb (ballotAt t j) (ballotAt t i) && eqb (heldSigner (at t j)) p)) (below n)
-  unfolding backersBy backsBy signers
+  unfolding backersBy signers
   backers-at two a p =
-      any-filter (λ y. eqb (signer y) p) (backsBy G (lrns G) a (tree t i)) (tran (tree t i))
-      ∙ any-beneath t ord i (λ y. backsBy G (lrns G) a (tree t i) y && eqb (signer y) p)
-      (not-T (backsBy G (lrns G) a (tree t i) (tree t i) && eqb (signer (tree t i)) p) (λ h. 2a-law (tree t i) .0 two .1 (search and-l))) n l
+      any-filter (λ y. eqb (signer y) p) backs (tran (tree t i))
+      ∙ any-beneath t ord i (λ y. backs y && eqb (signer y) p) (not-T (backs (tree t i) && eqb (signer (tree t i)) p) (λ h. 2a-law (tree t i) .0 two .1 (search and-l))) n l
       ∙ (λ e. any (λ j. reach t i j && (is1bAt t j && freshAt t G a j && eqb (ballotAt t j) (ballotAt t i) && eqb (tree-signer t j e) p)) (below n))
+    where
+      backs : Message → Bool
+      backs y = is1b y && fresh G a y && eqb (ballot y) (ballotAt t i)
 
   pub lrns-at : (a : ℕ)
       → lrnsAt t G i a ≡ (is2aAt t i && isQuorum G a (λ p. any (λ j. reach t i j && (is1bAt t j && freshAt t G a j && eqb (ballotAt t j) (ballotAt t i) && eqb (heldSigner (at t j)) p)) (below n)))

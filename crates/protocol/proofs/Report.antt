@@ -12,22 +12,13 @@ use Rattle.base.specs.Ballots.{valueOf}
 use Rattle.graph.specs.LearnerGraph.{LearnerGraph}
 use Rattle.protocol.specs.Message.{Message, is2a, ballot}
 use Rattle.protocol.specs.Report.{decides, deciding, least, others, Verdict, undecided, decided, split, against, verdict, report}
-use Rattle.protocol.specs.Theorems.{Peopled}
+use Rattle.protocol.specs.Equations.{Least, Says, Peopled, ReportSays}
 use Rattle.protocol.proofs.Decides.{decides-law}
 
--- ---- what a verdict says of the ballots D that decide
-abbrev pub Least : (ℕ → Type 0) → ℕ → Type 0
-Least D b = D b × ((x : ℕ) → D x → b ≤ x)
-
-abbrev pub Says : (ℕ → Type 0) → Verdict → Type 0
-Says D undecided = (x : ℕ) → D x → ⊥
-Says D (decided b) = Least D b × ((x : ℕ) → D x → valueOf x ≡ valueOf b)
-Says D (split b c) = Least D b × Least (λ x. D x × (valueOf x ≢ valueOf b)) c
-
+-- ---- only one verdict says what is so of the ballots D that decide
 least-one : (D : ℕ → Type 0) (b c : ℕ) → Least D b → Least D c → b ≡ c
 least-one D b c (i, f) (j, g) = omega (arith, f c j, g b i)
 
--- only one verdict says it
 says-one : (D : ℕ → Type 0) (v w : Verdict) → Says D v → Says D w → v ≡ w
 says-one D undecided undecided h k = refl
 says-one D undecided (decided c) h k = absurd (h c (k .0 .0))
@@ -135,20 +126,11 @@ module _ (G : LearnerGraph) (K : List Message) (a : ℕ) where
           let (m, k, two, e, _, _) = f p l t in
           (m, k, two, e)
 
-  pub report-says : Peopled G a → (v : Verdict) → (report G K a ≡ v) ↔ Says (λ x. T (decides G K a x)) v
-  report-says peopled v = (
-    λ e. says-cong Deciding (λ x. T (decides G K a x)) (deciding-all peopled) v (report-law v .0 e),
-    λ h. report-law v .1 (says-cong (λ x. T (decides G K a x)) Deciding (λ x. (deciding-all peopled x .1, deciding-all peopled x .0)) v h),
-  )
+pub reportSays : ReportSays
+reportSays G K a peopled v = (
+  λ e. says-cong (Deciding G K a) (λ x. T (decides G K a x)) (deciding-all G K a peopled) v (report-law G K a v .0 e),
+  λ h. report-law G K a v .1 (says-cong (λ x. T (decides G K a x)) (Deciding G K a) (λ x. (deciding-all G K a peopled x .1, deciding-all G K a peopled x .0)) v h),
+)
 
-  -- ---- the three, one by one
-  pub report-undecided : Peopled G a → (report G K a ≡ undecided) ↔ ((x : ℕ) → T (decides G K a x) → ⊥)
-  report-undecided peopled = report-says peopled undecided
-
-  pub report-decided : Peopled G a → (b : ℕ)
-      → (report G K a ≡ decided b) ↔ (Least (λ x. T (decides G K a x)) b × ((x : ℕ) → T (decides G K a x) → valueOf x ≡ valueOf b))
-  report-decided peopled b = report-says peopled (decided b)
-
-  pub report-split : Peopled G a → (b c : ℕ)
-      → (report G K a ≡ split b c) ↔ (Least (λ x. T (decides G K a x)) b × Least (λ x. T (decides G K a x) × (valueOf x ≢ valueOf b)) c)
-  report-split peopled b c = report-says peopled (split b c)
+pub report-undecided : (G : LearnerGraph) (K : List Message) (a : ℕ) → Peopled G a → (report G K a ≡ undecided) ↔ ((x : ℕ) → T (decides G K a x) → ⊥)
+report-undecided G K a peopled = reportSays G K a peopled undecided

@@ -12,6 +12,7 @@ use Rattle.base.specs.Tests.{_∈_, any}
 use Rattle.base.proofs.Tests.{any-cong, any-in, any-out, or-l, or-r, or-out}
 use Rattle.protocol.specs.Message.{Message, acceptor, cons, listed, idOf, signer, previous, references, isProposal, tran, trans}
 use Rattle.protocol.specs.Table.{Held, offers, says, Table, at, heldId, heldSigner, heldPrevious, offered, places, Ordered, gather, nodeBy, treeIn, tree, reachBy, reachIn, reach}
+use Rattle.protocol.specs.Equations.{TreeOfRecord, ReachOfRecord, TranOfPlace}
 use Rattle.protocol.proofs.Message.{tran-self}
 
 -- past the end a table holds nothing that refers to anything
@@ -44,6 +45,9 @@ tree-stable t ord (suc k) (suc l) i h g = node-cong (treeIn t k) (treeIn t l) (a
 pub tree-is : (t : Table) → Ordered t → (i : ℕ) → tree t i ≡ nodeBy (tree t) (at t i)
 unfolding tree treeIn
 tree-is t ord i = node-cong (treeIn t i) (tree t) (at t i) (λ j m. tree-stable t ord i (suc j) j (ord i j m) (omega arith))
+
+pub treeOfRecord : TreeOfRecord
+treeOfRecord = tree-is
 
 -- ---- its fields are those of the record
 module _ (f : ℕ → Message) where
@@ -107,6 +111,9 @@ reach-stable t ord (suc k) (suc l) i j h g =
 pub reach-is : (t : Table) → Ordered t → (i j : ℕ) → reach t i j ≡ (eqb i j || any (λ k. reach t k j) (places (at t i)))
 unfolding reach reachIn reachBy
 reach-is t ord i j = λ e. eqb i j || any-cong (λ n. reachIn t i n j) (λ n. reach t n j) (places (at t i)) (λ n m. reach-stable t ord i (suc n) n j (ord i n m) (omega arith)) e
+
+pub reachOfRecord : ReachOfRecord
+reachOfRecord = reach-is
 
 -- ---- Tran of a node
 trans-gather : (f : ℕ → Message) (r : List ℕ) (x : Message) → x ∈ trans (gather f r) → (k : ℕ) × (k ∈ r) × (x ∈ tran (f k))
@@ -181,3 +188,6 @@ module _ (t : Table) (ord : Ordered t) where
   -- THE LINK: a message is in Tran of the message of place i if it is that of a place that i reaches
   pub tran-places : (i : ℕ) (x : Message) → x ∈ tran (tree t i) ↔ ((j : ℕ) × T (reach t i j) × (x ≡ tree t j))
   tran-places i x = (λ h. tran-out (suc i) i x (omega arith) h, λ (j, r, e). Memᴰ·cast e (tran-in (suc i) i j (omega arith) r))
+
+pub tranOfPlace : TranOfPlace
+tranOfPlace = tran-places

@@ -6,7 +6,8 @@ use Rattle.base.specs.Tests.{_∈_}
 use Rattle.base.specs.Ballots.{valueOf}
 use Rattle.graph.specs.LearnerGraph.{LearnerGraph}
 use Rattle.protocol.specs.Message.{Message, isProposal, tran, ballot, value}
-use Rattle.protocol.specs.Theorems.{Peopled, Validity}
+use Rattle.protocol.specs.Equations.{Peopled}
+use Rattle.protocol.specs.Theorems.{Validity}
 use Rattle.protocol.proofs.Message.{tran-closed}
 use Rattle.protocol.proofs.Ballot.{Proposes, ballot-reached, ballot-proposal, proposal-in-1b}
 use Rattle.protocol.proofs.Learners.{Backer, Learns, lrns-law}

@@ -1,7 +1,6 @@
--- Con, Buried, Con2as, fresh, the quorum of a message and lrns: definitions 12 to 17 of the report, as document 01 has them.
--- Definitions 13 to 17 call each other, always on messages further down. So each is first given over L, where `L z b` says that b is in
--- lrns(z), under a name that ends in `By`; then the knot is tied once, by the height of the message. proofs/Knot shows that the height
--- does not matter: lrns is the L of its own definition.
+-- Con, Buried, Con2as, fresh, the quorum of a message and lrns: definitions 12 to 17 of the report, each under its sentence of document 01.
+-- Definitions 13 to 17 call each other, always on messages further down. So each is given over L, where `L z b` says that b is in lrns(z),
+-- under a name that ends in `By`; then the knot is tied once. Learners are asked for below `learners` wherever one is meant to be of the graph.
 use mathlib.Core.Bool.{Bool, false, not, _&&_}
 use mathlib.Core.List.{List}
 use Prim.Native.Nat.{ℕ, zero, suc, max}
@@ -18,48 +17,28 @@ unfoldable pub con : LearnerGraph → ℕ → Message → ℕ → Bool
 con G a m b = safeWithout G a b (caught m)
 
 -- ---- definition 13: "Buried_b(m, y): a 2a z in Tran(y) has b in lrns(z), B(z) > B(m) and V(z) ≠ V(m)"
-unfoldable pub overrides : Message → Message → Bool
-overrides z m = ltb (ballot m) (ballot z) && not (eqb (value z) (value m))
-
-unfoldable pub buriesBy : Lrns → ℕ → Message → Message → Bool
-buriesBy L b m z = is2a z && L z b && overrides z m
-
 unfoldable pub buriedBy : Lrns → ℕ → Message → Message → Bool
-buriedBy L b m y = any (buriesBy L b m) (tran y)
+buriedBy L b m y = any (λ z. is2a z && L z b && ltb (ballot m) (ballot z) && not (eqb (value z) (value m))) (tran y)
 
 -- ---- definition 14, read with lrns(m): "Con2as_a(y): the 2as m in Tran(y), of the signer of y, with some b in both lrns(m) and
 -- Con_a(y) for which Buried_b(m, y) fails"
-unfoldable pub ownVote : Message → Message → Bool
-ownVote y m = is2a m && eqb (signer m) (signer y)
-
-unfoldable pub standsBy : LearnerGraph → Lrns → ℕ → Message → Message → ℕ → Bool
-standsBy G L a y m b = L m b && con G a y b && not (buriedBy L b m y)
-
-unfoldable pub con2aBy : LearnerGraph → Lrns → ℕ → Message → Message → Bool
-con2aBy G L a y m = ownVote y m && any (standsBy G L a y m) (below (G .learners))
-
 unfoldable pub con2asBy : LearnerGraph → Lrns → ℕ → Message → List Message
-con2asBy G L a y = filter (con2aBy G L a y) (tran y)
+con2asBy G L a y = filter (λ m. is2a m && eqb (signer m) (signer y) && any (λ b. L m b && con G a y b && not (buriedBy L b m y)) (below (G .learners))) (tran y)
 
--- ---- definition 15: "a 1b y is fresh for a if every m of Con2as_a(y) has V(m) = V(y)"
-unfoldable pub sameValue : Message → Message → Bool
-sameValue y m = eqb (value m) (value y)
-
+-- ---- definition 15: "A 1b y is fresh for a if every m of Con2as_a(y) has V(m) = V(y)"
 unfoldable pub freshBy : LearnerGraph → Lrns → ℕ → Message → Bool
-freshBy G L a y = all (sameValue y) (con2asBy G L a y)
+freshBy G L a y = all (λ m. eqb (value m) (value y)) (con2asBy G L a y)
 
 -- ---- definition 16: "the signers of the 1bs in Tran(m) that are fresh for a and have ballot B(m)"
-unfoldable pub backsBy : LearnerGraph → Lrns → ℕ → Message → Message → Bool
-backsBy G L a m y = is1b y && freshBy G L a y && eqb (ballot y) (ballot m)
-
 unfoldable pub backersBy : LearnerGraph → Lrns → ℕ → Message → ℕ → Bool
-backersBy G L a m = signers (filter (backsBy G L a m) (tran m))
+backersBy G L a m = signers (filter (λ y. is1b y && freshBy G L a y && eqb (ballot y) (ballot m)) (tran m))
 
 -- ---- definition 17: "a is in lrns(m), m a 2a, if" these "are a quorum of a"
 unfoldable pub lrnsBy : LearnerGraph → Lrns → Message → ℕ → Bool
 lrnsBy G L m a = is2a m && isQuorum G a (backersBy G L a m)
 
--- ---- the knot
+-- ---- the knot: L is lrns of messages further down. The height only makes the recursion end and does not matter: `LearnersAsDefined`
+-- (Equations) has the six definitions with lrns in place of L and with no height.
 unfoldable mutual
   pub height : Message → ℕ
   height (proposal i s b) = 0
@@ -76,6 +55,7 @@ lrnsIn G (suc k) m a = lrnsBy G (lrnsIn G k) m a
 unfoldable pub lrns : LearnerGraph → Message → ℕ → Bool
 lrns G m a = lrnsIn G (suc (height m)) m a
 
+-- ---- definitions 13 to 16, with lrns in place of L
 abbrev pub buried : LearnerGraph → ℕ → Message → Message → Bool
 buried G b m y = buriedBy (lrns G) b m y
 

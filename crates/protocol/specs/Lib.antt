@@ -10,9 +10,11 @@ pub mod WellFormed
 pub mod Report
 -- Tables of held messages: a record names its references by places; the message of a place
 pub mod Table
--- The definitions at a place of a table
-pub mod Places
+-- What the definitions amount to, as statements: definitions 12 to 17 with no height, the message of a place, decisions, what the report says
+pub mod Equations
 -- The theorems, as statements: validity and agreement (theorems 21 and 22), and agreement between two tables
 pub mod Theorems
 -- Caught of the text of 19 November 2024 (its definitions 8 and 12), and that both texts catch the same acceptors
 pub mod November
+-- What only functions inside say to each other: no promise leans on it
+pub mod Inside

@@ -34,6 +34,6 @@ unconnected m n = isAcceptor m && isAcceptor n && eqb (signer m) (signer n) && n
 unfoldable pub caughtNovember : Message → ℕ → Bool
 caughtNovember x = signers (filter (λ m. any (unconnected m) (tran x)) (tran x))
 
--- ---- both texts catch the same acceptors, in every message of a set that is closed, chained and told apart by ids
+-- ---- both texts catch the same acceptors, in every message of a set that is closed, chained and told apart by ids. proofs/November proves it.
 abbrev pub SameCaught : Type 0
 SameCaught = (M : List Message) → Chained M → (x : Message) → x ∈ M → (p : ℕ) → caughtNovember x p ≡ caught x p

@@ -17,11 +17,12 @@ votes G a x m = is2a m && eqb (ballot m) x && lrns G m a
 unfoldable pub decides : LearnerGraph → List Message → ℕ → ℕ → Bool
 decides G K a x = isQuorum G a (signers (filter (votes G a x) K))
 
--- ---- definition 19: the messages S are a decision for a
+-- ---- definition 19: the messages S are a decision for a. A ballot decides where there is one: `DecidesByDecision` (Equations).
 unfoldable pub decision : LearnerGraph → ℕ → List Message → Bool
 decision G a S = isQuorum G a (signers S) && all (λ x. all (λ y. is2a x && lrns G x a && eqb (ballot x) (ballot y)) S) S
 
--- ---- the ballots that decide, each of them the ballot of a known 2a (where every listed quorum names an acceptor no other can decide)
+-- ---- the ballots that decide, each of them the ballot of a known 2a. Where every listed quorum names an acceptor no other can decide, and
+-- the report speaks of all ballots: `ReportSays` (Equations).
 unfoldable pub deciding : LearnerGraph → List Message → ℕ → List ℕ
 deciding G K a = filter (decides G K a) (map ballot (filter is2a K))
 

@@ -53,7 +53,7 @@ abbrev pub Ordered : Table → Type 0
 Ordered t = (i j : ℕ) → j ∈ places (at t i) → j < i
 
 -- ---- the message at a place. As lrns, it is first given over the messages of the earlier places, and the knot is tied by a number
--- above the place; proofs/Table shows that the number does not matter.
+-- above the place, which does not matter: `TreeOfRecord` (Equations) says it without.
 unfoldable pub gather : (ℕ → Message) → List ℕ → Messages
 gather f [] = nil
 gather f (j ∷ r) = cons (f j) (gather f r)
@@ -76,7 +76,7 @@ messages t ks = map (tree t) ks
 abbrev pub allHeld : Table → List Message
 allHeld t = messages t (below (length t))
 
--- ---- place j is in Tran of place i
+-- ---- place j is in Tran of place i: `TranOfPlace` (Equations); `ReachOfRecord` says it without the number
 unfoldable pub reachBy : (ℕ → ℕ → Bool) → Held → ℕ → ℕ → Bool
 reachBy R r i j = eqb i j || any (λ k. R k j) (places r)
 

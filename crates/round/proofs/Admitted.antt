@@ -29,6 +29,7 @@ use Rattle.round.specs.Delivery.{Result, refused, sent, joins, answered,
 use Rattle.round.specs.ShutOut.{Handed, ProposalAccepted, VoteAccepted}
 use Rattle.round.proofs.OneDelivery.{Kept}
 use Rattle.round.proofs.OneCall.{accepted-refused, replied-refused}
+use Rattle.round.proofs.Answers.{number-taken}
 
 -- ---- a message that is entered is not refused
 kept-pick : (b : Bool) (x y : Result) → Kept x → Kept y → Kept (pick b x y)
@@ -107,13 +108,15 @@ module _ (r : Round) where
 -- ---- so it is accepted
 pub proposalAccepted : ProposalAccepted
 proposalAccepted H r b buffer f ok reads house bay unknown free =
-    subst Kept (sym (handed H r b buffer ok ∙ ap (taken H r b) reads))
-    (decided-kept H r (H b) (offers (H b) (f .proposer) (f .ballot)) (firstOf (proposalRows r (H b) f)) (proposal-none r (H b) f house bay unknown free))
+    number-taken (delivery H r b buffer .outcome)
+    (subst Kept (sym (handed H r b buffer ok ∙ ap (taken H r b) reads))
+    (decided-kept H r (H b) (offers (H b) (f .proposer) (f .ballot)) (firstOf (proposalRows r (H b) f)) (proposal-none r (H b) f house bay unknown free)))
 
 pub voteAccepted : VoteAccepted
 voteAccepted H r b buffer f m ok reads house bay signer unknown has chains is one two free =
     let h = voteRecord r (H b) (f .signer) (previousId b f) (referenceIds b f) in
-    subst Kept (sym (handed H r b buffer ok ∙ ap (taken H r b) reads))
+    number-taken (delivery H r b buffer .outcome)
+    (subst Kept (sym (handed H r b buffer ok ∙ ap (taken H r b) reads))
     (decided-kept H r (H b) h (firstOf (acceptorRows r (H b) f (previousId b f) (referenceIds b f) (messageOf r h)))
     (vote-none r (H b) f (previousId b f) (referenceIds b f) (messageOf r h) house bay signer unknown has chains
-    (subst (λ (x : Message). T (formed1b x)) is one) (subst (λ (x : Message). T (formed2a (graphOf r) x)) is two) free))
+    (subst (λ (x : Message). T (formed1b x)) is one) (subst (λ (x : Message). T (formed2a (graphOf r) x)) is two) free)))

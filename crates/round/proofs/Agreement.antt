@@ -17,9 +17,9 @@ use Rattle.protocol.specs.Theorems.{SoundGraph, Lawful, Entangled, Within}
 use Rattle.protocol.proofs.Agreement.{entangled-turned, entangled-self}
 use Rattle.protocol.proofs.Tables.{messages-out, lawful}
 use Rattle.round.specs.Round.{Round}
-use Rattle.round.specs.declared.Report.the-variants.{Decided, Split}
 use Rattle.round.specs.Holdings.{graphOf, tableOf, knownPlaces}
-use Rattle.round.specs.Lists.{Call, run, lastRound, accepted, written, reports}
+use Rattle.round.specs.Answers.{decidedState, splitState, Page}
+use Rattle.round.specs.Lists.{Call, run, lastRound, accepted, written, pages}
 use Rattle.round.specs.Demands.{IdRule, Starts, SafeEdge, NoCollision, OneValue, AgreementOverLists}
 use Rattle.round.proofs.CallLaws.{CallLaws}
 use Rattle.round.proofs.TwoLists.{Both, first-list, second-list, first-free, second-free}
@@ -104,24 +104,24 @@ module _ (laws : CallLaws) (H : List ℕ → Id) (rule : IdRule H) (file : List 
   inMB : Within (messages (tableOf endB) (knownPlaces endB)) M
   inMB m i = Memᴰ·append-right (messages (tableOf endA) (knownPlaces endA)) i
 
-  either-decided : (x : ℕ) → Decided x ∈ reports a (run H rA lA) ++ reports b (run H rB lB) → InAll a (decided x) ⊎ InAll b (decided x)
-  either-decided x i = step (List·Memᴰ·append-cases (reports a (run H rA lA)) i)
+  either-decided : (p : Page) → p ∈ pages a (run H rA lA) ++ pages b (run H rB lB) → p .state ≡ decidedState → InAll a (decided (p .least)) ⊎ InAll b (decided (p .least))
+  either-decided p i d = step (List·Memᴰ·append-cases (pages a (run H rA lA)) i)
     where
-      step : (Decided x ∈ reports a (run H rA lA)) ⊎ (Decided x ∈ reports b (run H rB lB)) → InAll a (decided x) ⊎ InAll b (decided x)
-      step (inl j) = inl (decided-over laws rule startsA lA a (graphOf rA) refl M inMA x j)
-      step (inr j) = inr (decided-over laws rule startsB lB b (graphOf rA) one-graph M inMB x j)
+      step : (p ∈ pages a (run H rA lA)) ⊎ (p ∈ pages b (run H rB lB)) → InAll a (decided (p .least)) ⊎ InAll b (decided (p .least))
+      step (inl j) = inl (decided-over laws rule startsA lA a (graphOf rA) refl M inMA p j d)
+      step (inr j) = inr (decided-over laws rule startsB lB b (graphOf rA) one-graph M inMB p j d)
 
-  either-split : (x y : ℕ) → Split x y ∈ reports a (run H rA lA) ++ reports b (run H rB lB) → InAll a (split x y) ⊎ InAll b (split x y)
-  either-split x y i = step (List·Memᴰ·append-cases (reports a (run H rA lA)) i)
+  either-split : (p : Page) → p ∈ pages a (run H rA lA) ++ pages b (run H rB lB) → p .state ≡ splitState → InAll a (split (p .least) (p .other)) ⊎ InAll b (split (p .least) (p .other))
+  either-split p i d = step (List·Memᴰ·append-cases (pages a (run H rA lA)) i)
     where
-      step : (Split x y ∈ reports a (run H rA lA)) ⊎ (Split x y ∈ reports b (run H rB lB)) → InAll a (split x y) ⊎ InAll b (split x y)
-      step (inl j) = inl (split-over laws rule startsA lA a (graphOf rA) refl M inMA x y j)
-      step (inr j) = inr (split-over laws rule startsB lB b (graphOf rA) one-graph M inMB x y j)
+      step : (p ∈ pages a (run H rA lA)) ⊎ (p ∈ pages b (run H rB lB)) → InAll a (split (p .least) (p .other)) ⊎ InAll b (split (p .least) (p .other))
+      step (inl j) = inl (split-over laws rule startsA lA a (graphOf rA) refl M inMA p j d)
+      step (inr j) = inr (split-over laws rule startsB lB b (graphOf rA) one-graph M inMB p j d)
 
-  one-value-over-lists : OneValue (reports a (run H rA lA) ++ reports b (run H rB lB))
+  one-value-over-lists : OneValue (pages a (run H rA lA) ++ pages b (run H rB lB))
   one-value-over-lists = record {
-    values = λ x y i j. values x y (either-decided x i) (either-decided y j);
-    whole = λ x y i. whole x y (either-split x y i);
+    values = λ p q i j d e. values (p .least) (q .least) (either-decided p i d) (either-decided q j e);
+    whole = λ p i d. whole (p .least) (p .other) (either-split p i d);
   }
     where
       G : LearnerGraph

@@ -39,10 +39,12 @@ use Rattle.round.proofs.Records.{at-table}
 use Rattle.round.proofs.Chosen.{chosen-out, reply-covers}
 use Rattle.round.proofs.Accepting.{Accepts, proposal-accepts}
 use Rattle.round.proofs.Canonical.{table-size}
-use Rattle.round.proofs.Tables.{ordered-table}
+use Rattle.round.proofs.Tables.{ordered-table, refers}
 use Rattle.round.proofs.Bytes.{heldBallot, node-proposed}
 use Rattle.round.proofs.Admitted.{handed, proposal-none}
 use Rattle.round.proofs.Storing.{new-place}
+use Rattle.round.proofs.Answers.{number-replied}
+use Rattle.round.proofs.Forming.{sent-law}
 
 -- ---- in a table: place n holds a proposal of the largest ballot, and a vote at place v refers to it and to nothing later
 largest-below : (x : ℕ) (l : List Message) → 0 < x → ((y : Message) → y ∈ l → proposed y < x) → largest l < x
@@ -52,7 +54,8 @@ largest-below x (y ∷ l) pos h = omega (arith, h y (List·Memᴰ·head refl), l
 
 pub record Tops (u : Table) (n v x : ℕ) : Type 0 where
   pub ordered : Ordered u
-  pub positive : 0 < x
+  -- where there is an earlier place
+  pub positive : 0 < n → 0 < x
   pub isVote : T (not (offered (at u v)))
   pub refers : n ∈ places (at u v)
   pub within : (j : ℕ) → j ∈ places (at u v) → j ≤ n
@@ -73,7 +76,7 @@ module _ (u : Table) (n v x : ℕ) (tops : Tops u n v x) where
 
   ballot-low : (k : ℕ) → k < n → ballot (tree u k) < x
   unfolding ballot
-  ballot-low k l = largest-below x (tran (tree u k)) (tops .positive) (λ y h.
+  ballot-low k l = largest-below x (tran (tree u k)) (tops .positive (omega arith)) (λ y h.
       let (j, r, e) = tran-places u (tops .ordered) k y .0 h in
       let w : proposed (tree u j) < x = tops .lower j (omega (arith, reach-le u (tops .ordered) k j r)) in
       omega (arith, ap proposed e))
@@ -127,7 +130,7 @@ pick-both true false x y w h k = absurd k
 pick-both false b x y w h k = absurd h
 
 module _ (H : List ℕ → Id) (r : Round) (typed : Typed r) (fit : Fitting r) (voting : T (isVoting r)) (b : List ℕ) (f : Proposal)
-    (acc : Accepts H r b (offers (H b) (f .proposer) (f .ballot))) (new : placeOf r (H b) ≡ none) (free : r .held < acceptorRoom) (positive : 0 < f .ballot)
+    (acc : Accepts H r b (offers (H b) (f .proposer) (f .ballot))) (new : placeOf r (H b) ≡ none) (free : r .held < acceptorRoom)
     (lower : (q : ℕ) → q < r .held → T (isProposalAt r q) → getD (r .ballots) q 0 < f .ballot) where
   abbrev h : Held
   h = offers (H b) (f .proposer) (f .ballot)
@@ -164,6 +167,14 @@ module _ (H : List ℕ → Id) (r : Round) (typed : Typed r) (fit : Fitting r) (
       let here : placeOf s (idAt s j) ≡ some (r .held) = ap (placeOf s) (e ∙ hold-id r typed fit fits-in h (acc .storable) 1) ∙ new-place r s h new appends in
       subst (λ (k : ℕ). k ∈ replyPlaces s (r .held)) (some-one j (r .held) (sym (chosen-out s (r .held) (s .held) j m .canonical) ∙ here)) m
 
+  -- the first place that is held holds a proposal, since an acceptor message refers to an earlier one
+  positive : 0 < r .held → 0 < f .ballot
+  positive l = step (dec-T (isProposalAt r 0))
+    where
+      step : T (isProposalAt r 0) ⊎ T (not (isProposalAt r 0)) → 0 < f .ballot
+      step (inl t) = omega (arith, lower 0 l t)
+      step (inr t) = let (j, m) = refers r typed fit 0 l t in absurd (omega (arith, ordered-table r fit 0 j m))
+
   at-new : at u (r .held) ≡ h
   at-new =
       at-append (tableOf s) (vote ∷ []) (r .held) (omega (arith, table-size s, appends .held))
@@ -197,17 +208,19 @@ module _ (H : List ℕ → Id) (r : Round) (typed : Typed r) (fit : Fitting r) (
         offers′ = subst (λ (g : Held). T (offered g)) (sym at-new) tt;
         ballot′ = ballot-at (r .held) h at-new;
         lower = λ k l.
-            let w = pick-ballot (isProposalAt r k) (idAt r k) (signerAt r k) (getD (r .ballots) k 0) (f .ballot) (previousAt r k) (referencesAt r k) positive (lower k l) in
+            let w = pick-ballot (isProposalAt r k) (idAt r k) (signerAt r k) (getD (r .ballots) k 0) (f .ballot) (previousAt r k) (referencesAt r k) (positive (omega arith)) (lower k l) in
             omega (arith, ballot-at k (recordAt r k) (at-old k l));
       }
 
   is-sent : T (isSent s (messageOf s vote))
-  unfolding isSent formed2a places
+  unfolding formed2a places
   is-sent =
       let m = tree u (length (tableOf s)) in
-      subst (λ (x : Message). T (formed1b x && formed2a (graphOf s) x)) (tree-end (tableOf s) vote ordered reply-inside)
-      (and-in (formed1b m) (formed2a (graphOf s) m) (tops-1b u (r .held) (length (tableOf s)) (f .ballot) tops)
-      (or-l (not (is2a m)) (any (lrns (graphOf s) m) (below (graphOf s .learners))) (not-2a u (r .held) (length (tableOf s)) (f .ballot) tops)))
+      sent-law s (messageOf s vote) .1
+      (subst (λ (x : Message). T (formed1b x) × T (formed2a (graphOf s) x)) (tree-end (tableOf s) vote ordered reply-inside) (
+        tops-1b u (r .held) (length (tableOf s)) (f .ballot) tops,
+        or-l (not (is2a m)) (any (lrns (graphOf s) m) (below (graphOf s .learners))) (not-2a u (r .held) (length (tableOf s)) (f .ballot) tops),
+      ))
 
   answers : processed H s (r .held) .outcome ≡ outcome.Replied (length z)
   unfolding processed
@@ -221,7 +234,7 @@ room-found true n l = l
 room-found false n l = omega arith
 
 pub newBallotAnswered : NewBallotAnswered
-newBallotAnswered H rule r typed voting b buffer f ok reads house bay new free positive lower =
+newBallotAnswered H rule r typed voting b buffer f ok reads house bay new free lower =
     let h = offers (H b) (f .proposer) (f .ballot) in
     let fit = fits-out r (ok .0) in
     let unknown : T (not (isKnownId r (H b))) = subst (λ (o : Option ℕ). T (not (placed (isKnown r) o))) (sym new) tt in
@@ -229,4 +242,4 @@ newBallotAnswered H rule r typed voting b buffer f ok reads house bay new free p
     let acc = proposal-accepts H rule r (fit .most) b f reads passes in
     let enters : delivery H r b buffer ≡ processed H (hold r h 1) (r .held) =
     handed H r b buffer ok ∙ ap (taken H r b) reads ∙ ap (decidedBy H r (H b) h) passes ∙ ap (entered H r h) new in
-    (length (replyBytes (hold r h 1) (r .held)), ap (λ (d : Result). d .outcome) enters ∙ answers H r typed fit voting b f acc new free positive lower)
+    number-replied (delivery H r b buffer .outcome) (length (replyBytes (hold r h 1) (r .held))) (ap (λ (d : Result). d .outcome) enters ∙ answers H r typed fit voting b f acc new free lower)

@@ -91,7 +91,7 @@ module _ (H : List ℕ → Id) (rule : IdRule H) (s : Round) (typed : Typed s) (
   abbrev h : Held
   h = replyRecord s (H z) p
 
-  storable : Storable s h
+  pub storable : Storable s h
   unfolding heldId places heldPrevious offered
   storable =
       record {
@@ -125,13 +125,13 @@ module _ (H : List ℕ → Id) (rule : IdRule H) (s : Round) (typed : Typed s) (
   abbrev t : Round
   t = withRecent (hold s h 0) (s .held) (set (replicate maxHeld 0) (s .held) 1)
 
-  appends : Appends s t h false
+  pub appends : Appends s t h false
   appends = let a = hold-appends s typed fit room h storable 0 in record { held = a .held; table = a .table; old = a .old; new = a .new }
 
   same : Same s t
   same = let a = hold-same s typed fit room h storable 0 in record { graph = a .graph; house = a .house; bay = a .bay; own = a .own }
 
-  last : named t (t .last) ≡ some (H z)
+  pub last : named t (t .last) ≡ some (H z)
   unfolding heldId
   last = λ i. pick (ne-eqb (s .held) noPlace (λ e. absurd (omega arith)) i) none (some (hold-id s typed fit room h storable 0 i))
 

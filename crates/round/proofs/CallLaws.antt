@@ -6,11 +6,16 @@ use mathlib.Core.List.{List}
 use Prim.Native.Nat.{ℕ, _<_}
 use lib.Dec.{T}
 use Rattle.graphfile.specs.Arrays.{readingOf}
-use Rattle.protocol.specs.Theorems.{SoundGraph, Peopled}
+use Rattle.base.specs.declared.refusal.Refusal.{Refusal}
+use Rattle.protocol.specs.Ids.{Id}
+use Rattle.protocol.specs.Equations.{Peopled}
+use Rattle.protocol.specs.Theorems.{SoundGraph}
 use Rattle.round.specs.Round.{Round}
+use Rattle.round.specs.declared.Outcome.the-variants as outcome
 use Rattle.round.specs.Holdings.{graphOf, named}
 use Rattle.round.specs.Handed.{fits}
-use Rattle.round.specs.Demands.{Starts, Typed, RefusedLeavesAll}
+use Rattle.round.specs.Delivery.{delivered, replied}
+use Rattle.round.specs.Demands.{Starts, Typed}
 use Rattle.round.proofs.Step.{StepLaw}
 
 -- a freshly opened round: the graph of the file, sound and with an acceptor in every listed quorum; nothing held and nothing sent
@@ -29,4 +34,5 @@ OpeningLaw = (file : List ℕ) (house bay own : ℕ) (r : Round) → Starts file
 pub record CallLaws : Type 0 where
   pub opening : OpeningLaw
   pub step : StepLaw
-  pub refusal : RefusedLeavesAll
+  pub refusal : (H : List ℕ → Id) (r : Round) (b buffer : List ℕ) (e : Refusal) → delivered H r b buffer .outcome ≡ outcome.Refused e
+      → (delivered H r b buffer .round ≡ r) × (replied H r b buffer ≡ buffer)

@@ -21,37 +21,39 @@ use Rattle.round.specs.declared.Outcome.the-variants as outcome
 use Rattle.round.specs.Holdings.{named}
 use Rattle.round.specs.Rows.{previousId}
 use Rattle.round.specs.Delivery.{Result, delivery, replied}
-use Rattle.round.specs.Lists.{Call, deliver, report, run, writtenBy, written}
+use Rattle.round.specs.Answers.{outcomeNumber}
+use Rattle.round.specs.Lists.{Call, deliver, report, run, written}
 use Rattle.round.specs.Demands.{IdRule, Starts, Typed, Names, ChainFrom, ChainOfReplies}
 use Rattle.round.proofs.Step.{Silent, Sends, Step}
+use Rattle.round.proofs.Answers.{writtenBy, written-silent, written-refused, written-replied}
 use Rattle.round.proofs.CallLaws.{CallLaws}
 use Rattle.round.proofs.Kept.{IdFrom}
 use Rattle.round.proofs.Lists.{refused-or-not, reply-in-front}
 
 -- ---- what one call adds to the written messages `rest` of the calls behind it. p is last sent before the call, q after it.
 module _ (H : List ℕ → Id) (p q : Option Id) (rest : List (List ℕ)) (chain : ChainFrom H q rest) where
-  chain-refused : (o : Outcome) (e : Refusal) (buffer : List ℕ) → o ≡ outcome.Refused e → q ≡ p → ChainFrom H p (writtenBy o buffer rest)
-  chain-refused o e buffer d s = rw d (subst (λ (n : Option Id). ChainFrom H n rest) s chain)
+  chain-refused : (o : Outcome) (e : Refusal) (buffer : List ℕ) → o ≡ outcome.Refused e → q ≡ p → ChainFrom H p (writtenBy buffer rest (outcomeNumber o))
+  chain-refused o e buffer d s = subst (ChainFrom H p) (sym (written-refused buffer rest o e d)) (subst (λ (n : Option Id). ChainFrom H n rest) s chain)
 
-  chain-silent : (o : Outcome) (buffer : List ℕ) → o ≡ outcome.Accepted → q ≡ p → ChainFrom H p (writtenBy o buffer rest)
-  chain-silent o buffer d s = rw d (subst (λ (n : Option Id). ChainFrom H n rest) s chain)
+  chain-silent : (o : Outcome) (buffer : List ℕ) → o ≡ outcome.Accepted → q ≡ p → ChainFrom H p (writtenBy buffer rest (outcomeNumber o))
+  chain-silent o buffer d s = subst (ChainFrom H p) (sym (written-silent buffer rest o d)) (subst (λ (n : Option Id). ChainFrom H n rest) s chain)
 
-  chain-sends : (o : Outcome) (z buffer : List ℕ) → o ≡ outcome.Replied (length z) → q ≡ some (H z) → Names z p → ChainFrom H p (writtenBy o (fronted z buffer) rest)
+  chain-sends : (o : Outcome) (z buffer : List ℕ) → o ≡ outcome.Replied (length z) → q ≡ some (H z) → Names z p → ChainFrom H p (writtenBy (fronted z buffer) rest (outcomeNumber o))
   unfolding ChainFrom
   chain-sends o z buffer d s names =
       let front : z ≡ take (length z) (fronted z buffer) = sym (reply-in-front z buffer) in
       let whole : ChainFrom H p (z ∷ rest) = (names, subst (λ (n : Option Id). ChainFrom H n rest) s chain) in
-      subst (λ (o : Outcome). ChainFrom H p (writtenBy o (fronted z buffer) rest)) (sym d) (subst (λ (y : List ℕ). ChainFrom H p (y ∷ rest)) front whole)
+      subst (ChainFrom H p) (sym (written-replied (fronted z buffer) rest o (length z) d)) (subst (λ (y : List ℕ). ChainFrom H p (y ∷ rest)) front whole)
 
   chain-step : (r : Round) (b buffer : List ℕ) (d : Result) → Step H r b d → p ≡ named r (r .last) → q ≡ named (d .round) (d .round .last)
-      → ChainFrom H p (writtenBy (d .outcome) (fronted (d .reply) buffer) rest)
+      → ChainFrom H p (writtenBy (fronted (d .reply) buffer) rest (outcomeNumber (d .outcome)))
   chain-step r b buffer d s before after = step (s .answers)
     where
       sofar : p ≡ named (s .between) (s .between .last)
       sofar = before ∙ sym (s .arrives .last)
 
       step : Silent (s .between) (d .round) (d .outcome) (d .reply) ⊎ Sends H (s .between) (d .round) (d .outcome) (d .reply)
-          → ChainFrom H p (writtenBy (d .outcome) (fronted (d .reply) buffer) rest)
+          → ChainFrom H p (writtenBy (fronted (d .reply) buffer) rest (outcomeNumber (d .outcome)))
       step (inl e) = chain-silent (d .outcome) (fronted (d .reply) buffer) (e .outcome) (after ∙ e .last ∙ sym sofar)
       step (inr e) = chain-sends (d .outcome) (d .reply) buffer (e .outcome) (after ∙ e .last) (subst (λ (n : Option Id). Names (d .reply) n) (sym sofar) (e .names))
 
@@ -64,7 +66,7 @@ module _ (laws : CallLaws) where
     where
       step : ((s : Round) → Typed s → ChainFrom H (named s (s .last)) (written (run H s l)))
           → ((e : Refusal) × (delivery H r b buffer .outcome ≡ outcome.Refused e)) ⊎ ((e : Refusal) → delivery H r b buffer .outcome ≢ outcome.Refused e)
-          → ChainFrom H (named r (r .last)) (writtenBy (delivery H r b buffer .outcome) (replied H r b buffer) (written (run H (delivery H r b buffer .round) l)))
+          → ChainFrom H (named r (r .last)) (writtenBy (replied H r b buffer) (written (run H (delivery H r b buffer .round) l)) (outcomeNumber (delivery H r b buffer .outcome)))
       step rest (inl (e, d)) =
           let same : delivery H r b buffer .round ≡ r = laws .refusal H r b buffer e d .0 in
           chain-refused H (named r (r .last)) (named (delivery H r b buffer .round) (delivery H r b buffer .round .last)) (written (run H (delivery H r b buffer .round) l))

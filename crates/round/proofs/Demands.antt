@@ -11,7 +11,8 @@ use Rattle.graphfile.specs.Arrays.{readingOf}
 use Rattle.graphfile.proofs.Files.{reading-answer}
 use Rattle.graphfile.proofs.Accepted.{acceptedIsSound, undirected-symmetric}
 use Rattle.graphfile.proofs.Peopled.{accepted-peopled}
-use Rattle.protocol.specs.Theorems.{SoundGraph, Peopled}
+use Rattle.protocol.specs.Equations.{Peopled}
+use Rattle.protocol.specs.Theorems.{SoundGraph}
 use Rattle.round.specs.Demands.{AgreementOverLists, ChainOfReplies, DemandThree, ReachedFits, KnownBeneath, ValidityOverLists, SameCaughtOverLists, OneCaughtList}
 use Rattle.round.proofs.CallLaws.{OpeningLaw, CallLaws}
 use Rattle.round.proofs.JustOpened.{opened-round}
@@ -45,7 +46,7 @@ opening file house bay own r starts =
       unsent = O .last;
     }
 
-callLaws : CallLaws
+pub callLaws : CallLaws
 callLaws = record { opening = opening; step = step; refusal = refused-leaves-all }
 
 -- DEMAND 3, AGREEMENT

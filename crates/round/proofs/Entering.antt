@@ -14,8 +14,8 @@ use Rattle.round.specs.Round.{Round}
 use Rattle.round.specs.Limits.{maxHeld, acceptorRoom, listening}
 use Rattle.round.specs.Holdings.{isVoting, idAt, named, isKnown, placeOf}
 use Rattle.round.specs.Rows.{placed}
-use Rattle.round.specs.Delivery.{Result, hold, returned, processed, entered}
-use Rattle.round.specs.Demands.{IdRule, Typed, RecentId}
+use Rattle.round.specs.Delivery.{Result, hold, returned, enteredIn, enteredAt, processed, entered}
+use Rattle.round.specs.Demands.{IdRule, Typed, RecentId, ReplySays}
 use Rattle.round.proofs.Step.{Arrives, Step}
 use Rattle.round.proofs.Named.{place-some}
 use Rattle.round.proofs.Fitting.{Fitting, fits-in, named-kept}
@@ -50,13 +50,20 @@ pub record SameRecent (H : List ℕ → Id) (r s : Round) (b : List ℕ) (p : �
   pub after : (i : Id) → RecentId r i → RecentId s i
   pub holds : RecentHolds r → RecentHolds s
 
-module _ (H : List ℕ → Id) (rule : IdRule H) (r : Round) (typed : Typed r) (fit : Fitting r) (b : List ℕ) (h : Held) (acc : Accepts H r b h) where
-  room : r .held < maxHeld
-  room = room-left (isVoting r) (λ p. not (isKnown r p)) (placeOf r (H b)) (r .held) (acc .fresh .notFull)
+-- all that is known of s: it can be answered in
+pub record Entered (H : List ℕ → Id) (r s : Round) (b : List ℕ) (p : ℕ) : Type 0 where
+  pub arrives : Arrives H r s b
+  pub recent : SameRecent H r s b p
+  pub typed : Typed s
+  pub fitting : Fitting s
+  pub free : T (isVoting s) → s .held < maxHeld
+  pub here : p < s .held
 
-  spoken : (s : Round) (p : ℕ) (d : Result) → Arrives H r s b → SameRecent H r s b p → Speaks s (idAt s p) d → Speaks r (H b) d
-  spoken s p d a c w n e =
-      let (f, read, house, bay, own, last, refs) = w n e in (
+module _ (H : List ℕ → Id) (r s : Round) (b : List ℕ) (p : ℕ) (e : Entered H r s b p) where
+  -- what a reply in s says, it says of r
+  pub says-before : (z : List ℕ) → ReplySays s (idAt s p) z → ReplySays r (H b) z
+  says-before z (f, read, house, bay, own, last, refs) =
+      let a = e .arrives in (
         f,
         read,
         house ∙ sym (a .same .house),
@@ -67,20 +74,24 @@ module _ (H : List ℕ → Id) (rule : IdRule H) (r : Round) (typed : Typed r) (
       )
     where
       there : (i : Id) → (i ≡ idAt s p) ⊎ RecentId s i → (i ≡ H b) ⊎ RecentId r i
-      there i (inl e) = inl (e ∙ c .id)
-      there i (inr h) = inr (c .before i h)
+      there i (inl q) = inl (q ∙ e .recent .id)
+      there i (inr h) = inr (e .recent .before i h)
 
       back : (i : Id) → (i ≡ H b) ⊎ RecentId r i → (i ≡ idAt s p) ⊎ RecentId s i
-      back i (inl e) = inl (e ∙ sym (c .id))
-      back i (inr h) = inr (c .after i h)
+      back i (inl q) = inl (q ∙ sym (e .recent .id))
+      back i (inr h) = inr (e .recent .after i h)
 
-  stepped : (s : Round) (p : ℕ) (d : Result) → Arrives H r s b → SameRecent H r s b p → Answers H s p d → Tells H r b d
-  stepped s p d a c w =
+  stepped : (d : Result) → Answers H s p d → Tells H r b d
+  stepped d w =
       record {
-        step = record { between = s; arrives = a; answers = w .answers; typed = w .typed; fitting = fits-in (d .round) (w .fitting) };
-        speaks = spoken s p d a c (w .speaks);
-        recent = λ inv. w .recent (c .holds inv);
+        step = record { between = s; arrives = e .arrives; answers = w .answers; typed = w .typed; fitting = fits-in (d .round) (w .fitting) };
+        speaks = λ n q. says-before (d .reply) (w .speaks n q);
+        recent = λ inv. w .recent (e .recent .holds inv);
       }
+
+module _ (H : List ℕ → Id) (rule : IdRule H) (r : Round) (typed : Typed r) (fit : Fitting r) (b : List ℕ) (h : Held) (acc : Accepts H r b h) where
+  pub room : r .held < maxHeld
+  room = room-left (isVoting r) (λ p. not (isKnown r p)) (placeOf r (H b)) (r .held) (acc .fresh .notFull)
 
   -- ---- behind the others
   abbrev s : Round
@@ -108,18 +119,15 @@ module _ (H : List ℕ → Id) (rule : IdRule H) (r : Round) (typed : Typed r) (
         holds = held-holds r typed fit room h (acc .storable) 1;
       }
 
-  answers-new : placeOf r (H b) ≡ none → Answers H s (r .held) (processed H s (r .held))
-  answers-new e =
+  free-new : placeOf r (H b) ≡ none → T (isVoting s) → s .held < maxHeld
+  free-new e v =
       let held = hold-appends r typed fit room h (acc .storable) 1 .held in
       let own = hold-same r typed fit room h (acc .storable) 1 .own in
-      processing H rule s (hold-typed r typed fit room h (acc .storable) 1) (hold-fitting r typed fit room h (acc .storable) 1)
-      (λ v.
       let w : r .held < acceptorRoom =
       room-behind (isVoting r) (λ p. not (isKnown r p)) (r .held)
       (subst (λ (o : Option ℕ). T (not (leb (pick (isVoting r && not (placed (λ p. not (isKnown r p)) o)) acceptorRoom maxHeld) (r .held)))) e (acc .fresh .notFull))
       (subst (λ (n : ℕ). T (ltb n listening)) (sym own) v) in
-      omega arith)
-      (r .held) (omega arith)
+      omega arith
 
   -- ---- at the place where it awaited its return
   awaited : (p : ℕ) → placeOf r (H b) ≡ some p → T (not (isKnown r p))
@@ -149,8 +157,30 @@ module _ (H : List ℕ → Id) (rule : IdRule H) (r : Round) (typed : Typed r) (
   recent-back : (p : ℕ) → placeOf r (H b) ≡ some p → SameRecent H r (returned r p) b p
   recent-back p e = record { id = place-some r (H b) p e .there; before = λ i h. h; after = λ i h. h; holds = λ inv. record { last = inv .last; votes = inv .votes } }
 
+  -- ---- either, as the id names a place or none
+  pub entering : (o : Option ℕ) → placeOf r (H b) ≡ o → Entered H r (enteredIn r h o) b (enteredAt r o)
+  entering none e =
+      record {
+        arrives = arrives-new e;
+        recent = recent-new;
+        typed = hold-typed r typed fit room h (acc .storable) 1;
+        fitting = hold-fitting r typed fit room h (acc .storable) 1;
+        free = free-new e;
+        here = let held = hold-appends r typed fit room h (acc .storable) 1 .held in omega arith;
+      }
+  entering (some p) e =
+      record {
+        arrives = arrives-back p e;
+        recent = recent-back p e;
+        typed = returned-typed r typed p;
+        fitting = returned-fitting r fit p;
+        free = λ v. room;
+        here = place-some r (H b) p e .inside;
+      }
+
   pub enters : (o : Option ℕ) → placeOf r (H b) ≡ o → Tells H r b (entered H r h o)
-  enters none e = stepped s (r .held) (processed H s (r .held)) (arrives-new e) recent-new (answers-new e)
-  enters (some p) e =
-      stepped (returned r p) p (processed H (returned r p) p) (arrives-back p e) (recent-back p e)
-      (processing H rule (returned r p) (returned-typed r typed p) (returned-fitting r fit p) (λ v. room) p (place-some r (H b) p e .inside))
+  enters o e =
+      let w = entering o e in
+      let s = enteredIn r h o in
+      let p = enteredAt r o in
+      stepped H r s b p w (processed H s p) (processing H rule s (w .typed) (w .fitting) (w .free) p (w .here))

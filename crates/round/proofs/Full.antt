@@ -34,6 +34,7 @@ use Rattle.round.specs.ShutOut.{FullOnly, RoomFound}
 use Rattle.round.proofs.Passing.{proposal-passed, acceptor-passed}
 use Rattle.round.proofs.OneDelivery.{Kept, past-argument}
 use Rattle.round.proofs.Admitted.{entered-kept}
+use Rattle.round.proofs.Answers.{taken-number, full-number}
 
 -- ---- the reader refuses by 1 to 4 only
 unfoldable Early : Reading → Type 0
@@ -163,10 +164,11 @@ module _ (H : List ℕ → Id) (r : Round) (b : List ℕ) where
 pub fullOnly : FullOnly
 unfolding delivery
 fullOnly H r b buffer k =
-    full-words r (H b) (argument-full H r b (not (fits r) || ltb (length buffer) replyLen) (taken H r b (reading b)) (taken-full H r b (reading b) (reader-early b)) k)
+    full-words r (H b) (argument-full H r b (not (fits r) || ltb (length buffer) replyLen) (taken H r b (reading b)) (taken-full H r b (reading b) (reader-early b)) (full-number (delivery H r b buffer .outcome) k))
 
 pub roomFound : RoomFound
 unfolding delivery
-roomFound H r b buffer k =
+roomFound H r b buffer taken′ =
+    let k : Kept (delivery H r b buffer) = taken-number (delivery H r b buffer .outcome) taken′ in
     let (f, e) = past-argument r (fits r) (ltb (length buffer) replyLen) (taken H r b (reading b)) k in
     nleb→lt (room r (H b)) (r .held) (taken-room H r b (reading b) (subst Kept e k))

@@ -1,13 +1,15 @@
--- The graph of an accepted file passes row 17.
+-- The graph of an accepted file passes row 17, and row 17 bounds the numbers of a graph.
+use mathlib.Core.Logic.{⊎-elim}
 use mathlib.Core.Path.{_≡_, refl, sym, subst}
-use mathlib.Core.Bool.{not, _&&_}
+use mathlib.Core.Bool.{Bool, not, _&&_}
 use mathlib.Core.List.{List, [], _∷_, List·Memᴰ·head, List·Memᴰ·tail}
 use Prim.Native.Nat.{ℕ, zero, suc, _≤_}
 use native.Mathlib.Omega.{arith}
-use lib.Dec.{T, leb, le→leb}
+use lib.Dec.{T, eqb, ltb, leb, eqb→eq, ltb→lt, le→leb, leb→le}
 use lib.ListN.{length, getD, set, replicate}
 use Rattle.base.specs.Tests.{all, below}
-use Rattle.base.proofs.Tests.{and-in, or-r, all-in}
+use Rattle.base.proofs.Tests.{and-in, and-l, and-r, or-r, or-out, all-in}
+use Rattle.graph.specs.declared.Graph.{Graph}
 use Rattle.graph.specs.declared.Answer.{Answer}
 use Rattle.graph.specs.declared.Answer.the-variants.{Accepted, Refused}
 use Rattle.graph.specs.Limits.{maxAcceptors, maxLearners, maxMasks, lists}
@@ -17,6 +19,7 @@ use Rattle.graphfile.proofs.Reader.{Small, Rows, GraphGot, graph-got}
 use Rattle.graphfile.proofs.Accepted.{FileGot, file-got}
 use Rattle.graph.specs.Memory.{pairList}
 use Rattle.graphfile.specs.Arrays.{ListArrays, hold, holdAll, holdRows, heldOf, nothing, graphOfHeld, graphReading, contentsReading, readingOf}
+use Rattle.round.specs.Limits.{listening, ownAllowed}
 use Rattle.round.specs.Handed.{inUse, listFits, graphFits}
 
 -- ---- lists held
@@ -75,3 +78,34 @@ got-fits s (no r) e k = let z : _≡_ {A = ℕ} 0 1 = cc in absurd (omega arith)
 
 pub accepted-fits : (s : List ℕ) → readingOf s .answer ≡ Accepted → T (graphFits (readingOf s .graph))
 accepted-fits s e = got-fits s (contents s) refl e
+
+-- ---- what row 17 leaves of a graph's numbers
+module _ (g : Graph) (h : T (graphFits g)) where
+  abbrev a : Bool
+  a = leb 1 (g .acceptors)
+
+  abbrev b : Bool
+  b = leb (g .acceptors) maxAcceptors
+
+  abbrev c : Bool
+  c = leb 1 (g .learners)
+
+  abbrev d : Bool
+  d = leb (g .learners) maxLearners
+
+  abbrev e : Bool
+  e = all (listFits g) (below lists)
+
+  pub acceptors-fit : g .acceptors ≤ maxAcceptors
+  unfolding graphFits
+  acceptors-fit = leb→le (g .acceptors) maxAcceptors (and-r a b (and-l (a && b) c (and-l (a && b && c) d (and-l (a && b && c && d) e h))))
+
+  pub learners-fit : g .learners ≤ maxLearners
+  unfolding graphFits
+  learners-fit = leb→le (g .learners) maxLearners (and-r (a && b && c) d (and-l (a && b && c && d) e h))
+
+  -- an own number that is allowed is 256, or that of an acceptor
+  pub own-fits : (own : ℕ) → T (ownAllowed own (g .acceptors)) → own ≤ listening
+  own-fits own t =
+      let most = acceptors-fit in
+      ⊎-elim (λ x. omega (arith, eqb→eq own listening x)) (λ x. omega (arith, ltb→lt own (g .acceptors) x)) (or-out (eqb own listening) (ltb own (g .acceptors)) t)

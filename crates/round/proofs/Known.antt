@@ -15,16 +15,16 @@ use Rattle.protocol.specs.Theorems.{Within, Accepted}
 use Rattle.protocol.specs.Theorems as theorems
 use Rattle.protocol.proofs.Reach.{reach-inside}
 use Rattle.round.specs.Round.{Round}
-use Rattle.round.specs.declared.Report.{Report}
 use Rattle.round.specs.Holdings.{tableOf, isKnown, knownPlaces}
-use Rattle.round.specs.Lists.{Call, run, lastRound, accepted, written, reports}
+use Rattle.round.specs.Answers.{Page}
+use Rattle.round.specs.Lists.{Call, run, lastRound, accepted, written, pages}
 use Rattle.round.specs.Demands.{IdRule, Starts, NoCollision, ReachedFits, KnownBeneath}
 use Rattle.round.proofs.Step.{contentIn, Readable}
 use Rattle.round.proofs.CallLaws.{CallLaws}
 use Rattle.round.proofs.Canonical.{table-size}
 use Rattle.round.proofs.Kept.{Source, source-inside}
 use Rattle.round.proofs.Reached.{Reached, Grows, grows-size}
-use Rattle.round.proofs.Lists.{Stands, fresh-reached, list-keeps, report-stands}
+use Rattle.round.proofs.Lists.{Stands, fresh-reached, list-keeps, page-stands}
 
 -- ---- all places, and the known ones
 abbrev pub heldPlaces : Round → List ℕ
@@ -98,8 +98,8 @@ module _ (laws : CallLaws) {H : List ℕ → Id} (rule : IdRule H) {file : List 
       (fresh-reached laws H rule (accepted (run H r l)) (written (run H r l)) (laws .opening file house bay own r starts)) (λ m i. i) (λ m i. i)
 
   -- each report of the list stands on a round that the list passes through
-  pub report-in-list : (c : ℕ) (x : Report) → x ∈ reports c (run H r l) → Stands H (accepted (run H r l)) (written (run H r l)) c x (lastRound H r l)
-  report-in-list c x i = report-stands laws H rule (accepted (run H r l)) (written (run H r l)) c x r l
+  pub page-in-list : (c : ℕ) (p : Page) → p ∈ pages c (run H r l) → Stands H (accepted (run H r l)) (written (run H r l)) c p (lastRound H r l)
+  page-in-list c p i = page-stands laws H rule (accepted (run H r l)) (written (run H r l)) c p r l
       (fresh-reached laws H rule (accepted (run H r l)) (written (run H r l)) (laws .opening file house bay own r starts)) (λ m j. j) (λ m j. j) i
 
 pub reachedFits : CallLaws → ReachedFits

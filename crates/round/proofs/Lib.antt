@@ -29,6 +29,8 @@ pub mod Passing
 pub mod Arriving
 pub mod Accepting
 pub mod Entering
+-- The answers by their numbers
+pub mod Answers
 -- The law of one delivery
 pub mod OneDelivery
 -- Demand 1 on each delivery
@@ -81,6 +83,9 @@ pub mod Struck
 -- ---- places in one byte
 -- What row 17 says of places
 pub mod OneByte
+-- ---- the own number
+-- One that the graph lacks is 17, unless it is 256
+pub mod OwnNumber
 -- ---- what the contract must shut out
 -- A round that turns every message down
 pub mod Admitted
@@ -88,7 +93,11 @@ pub mod Admitted
 pub mod Full
 -- A delivery that stores nothing
 pub mod Storing
--- An acceptor that is mute after its first reply
+-- What is accepted is held, and z is sent exactly where it is well-formed: no acceptor that is mute later
+pub mod Forming
 pub mod Answered
 -- A report that is always undecided, an invented reply length
 pub mod ShutOut
+-- ---- every round that passes 17
+-- It holds messages as trees, and its report says what document 01 says
+pub mod Passed

@@ -1,14 +1,15 @@
 -- Lists of calls: the invariant of proofs/Reached along a list, and the round that each report of a list was made on.
 use mathlib.Core.Path.{_≡_, refl, sym, ap, subst, _∙_}
 use mathlib.Core.Logic.{_⊎_, inl, inr, _≢_}
-use mathlib.Core.Bool.{Bool, true, false}
-use mathlib.Core.List.{List, [], _∷_, List·Memᴰ·head, List·Memᴰ·tail}
+use mathlib.Core.Bool.{_&&_}
+use mathlib.Core.List.{List, [], _∷_, List·Memᴰ·head}
 use Prim.Native.Nat.{ℕ}
 use native.Mathlib.Omega.{arith}
 use lib.ListN.{length, take, drop}
 use lib.Seq.{take-append-seam}
 use lib.Dec.{T, eqb, eqb→eq}
-use Rattle.base.specs.Tests.{_∈_, pick}
+use Rattle.base.specs.Tests.{_∈_}
+use Rattle.base.proofs.Tests.{and-l, and-r, pick-head, pick-tail, pick-out}
 use Rattle.base.specs.declared.refusal.Refusal.{Refusal}
 use Rattle.message.specs.Writer.{fronted}
 use Rattle.protocol.specs.Ids.{Id}
@@ -17,13 +18,13 @@ use Rattle.protocol.specs.Table.{Table, tabulate}
 use Rattle.round.specs.Round.{Round}
 use Rattle.round.specs.declared.Outcome.{Outcome}
 use Rattle.round.specs.declared.Outcome.the-variants as outcome
-use Rattle.round.specs.declared.Report.{Report}
 use Rattle.round.specs.Holdings.{recordAt, tableOf, isKnown}
 use Rattle.round.specs.Delivery as given
-use Rattle.round.specs.Report.{reported}
-use Rattle.round.specs.Lists.{Call, deliver, report, Seen, delivery, reporting, seen, after, run, lastRound, acceptedBy, accepted, writtenBy, written, reports}
+use Rattle.round.specs.Answers.{outcomeNumber, hasReply, replySize, isTaken, Page, reportedNumber, reportedPage}
+use Rattle.round.specs.Lists.{Call, deliver, report, Seen, delivery, reporting, seen, after, run, lastRound, accepted, written, pages}
 use Rattle.round.specs.Demands.{IdRule}
 use Rattle.round.proofs.CallLaws.{Fresh, CallLaws}
+use Rattle.round.proofs.Answers.{number-taken, writtenBy, written-replied}
 use Rattle.round.proofs.Kept.{Kept, kept-nil}
 use Rattle.round.proofs.Reached.{Reached, Grows, grows-refl, grows-trans, step-grows, step-keeps}
 
@@ -33,59 +34,43 @@ refused-or-not (outcome.Refused e) = inl (e, refl)
 refused-or-not outcome.Accepted = inr (λ e d. let z : _≡_ {A = ℕ} 0 1 = cc in omega arith)
 refused-or-not (outcome.Replied n) = inr (λ e d. let z : _≡_ {A = ℕ} 0 1 = cc in omega arith)
 
-accepted-here : (b : List ℕ) (o : Outcome) (l : List (List ℕ)) → ((e : Refusal) → o ≢ outcome.Refused e) → b ∈ acceptedBy b o l
-accepted-here b (outcome.Refused e) l ne = absurd (ne e refl)
-accepted-here b outcome.Accepted l ne = List·Memᴰ·head refl
-accepted-here b (outcome.Replied n) l ne = List·Memᴰ·head refl
-
-accepted-behind : (b : List ℕ) (o : Outcome) (l : List (List ℕ)) (m : List ℕ) → m ∈ l → m ∈ acceptedBy b o l
-accepted-behind b (outcome.Refused e) l m i = i
-accepted-behind b outcome.Accepted l m i = List·Memᴰ·tail i
-accepted-behind b (outcome.Replied n) l m i = List·Memᴰ·tail i
-
-written-behind : (o : Outcome) (buffer : List ℕ) (l : List (List ℕ)) (m : List ℕ) → m ∈ l → m ∈ writtenBy o buffer l
-written-behind (outcome.Refused e) buffer l m i = i
-written-behind outcome.Accepted buffer l m i = i
-written-behind (outcome.Replied n) buffer l m i = List·Memᴰ·tail i
-
 -- a reply is the front of the buffer
 pub reply-in-front : (z buffer : List ℕ) → take (length z) (fronted z buffer) ≡ z
 reply-in-front z buffer = take-append-seam z (drop (length z) buffer)
 
-written-here : (o : Outcome) (z buffer : List ℕ) (l : List (List ℕ)) → o ≡ outcome.Replied (length z) → z ∈ writtenBy o (fronted z buffer) l
+written-here : (o : Outcome) (z buffer : List ℕ) (l : List (List ℕ)) → o ≡ outcome.Replied (length z) → z ∈ writtenBy (fronted z buffer) l (outcomeNumber o)
 written-here o z buffer l e =
-    subst (λ (o : Outcome). z ∈ writtenBy o (fronted z buffer) l) (sym e) (List·Memᴰ·head (sym (reply-in-front z buffer)))
+    subst (λ (x : List (List ℕ)). z ∈ x) (sym (written-replied (fronted z buffer) l o (length z) e)) (List·Memᴰ·head (sym (reply-in-front z buffer)))
 
 accepted-tail : (s : Seen) (l : List Seen) (m : List ℕ) → m ∈ accepted l → m ∈ accepted (s ∷ l)
 unfolding accepted
-accepted-tail (delivery b o buffer) l m i = accepted-behind b o (accepted l) m i
-accepted-tail (reporting a answer) l m i = i
+accepted-tail (delivery b n buffer) l m i = pick-tail (isTaken n) b m (accepted l) i
+accepted-tail (reporting a n p) l m i = i
 
 written-tail : (s : Seen) (l : List Seen) (m : List ℕ) → m ∈ written l → m ∈ written (s ∷ l)
 unfolding written
-written-tail (delivery b o buffer) l m i = written-behind o buffer (written l) m i
-written-tail (reporting a answer) l m i = i
+written-tail (delivery b n buffer) l m i = pick-tail (hasReply n) (take (replySize n) buffer) m (written l) i
+written-tail (reporting a n p) l m i = i
 
 -- ---- a report of a list
--- x is the report for a on a round that the list passes through, from r to last
-pub record Stands (H : List ℕ → Id) (A W : List (List ℕ)) (a : ℕ) (x : Report) (last : Round) : Type 0 where
+-- p is the page of a report for a, not turned down, on a round that the list passes through, from r to last
+pub record Stands (H : List ℕ → Id) (A W : List (List ℕ)) (a : ℕ) (p : Page) (last : Round) : Type 0 where
   pub round : Round
   pub reached : Reached H A W round
   pub until : Grows round last
-  pub answers : x ≡ reported round a
+  pub taken : reportedNumber round a ≡ 0
+  pub shows : p ≡ reportedPage round a
 
-reports-cases : (t : Bool) (x y : Report) (l : List Report) → x ∈ pick t (y ∷ l) l → (T t × (x ≡ y)) ⊎ (x ∈ l)
-reports-cases true x y l (List·Memᴰ·head e) = inl (tt, e)
-reports-cases true x y l (List·Memᴰ·tail m) = inr m
-reports-cases false x y l m = inr m
-
-report-cases : (H : List ℕ → Id) (r : Round) (c : Call) (a : ℕ) (x : Report) (l : List Seen) → x ∈ reports a (seen H r c ∷ l) → (x ≡ reported r a) ⊎ (x ∈ reports a l)
-unfolding reports
-report-cases H r (deliver b buffer) a x l m = inr m
-report-cases H r (report c) a x l m = step (reports-cases (eqb c a) x (reported r c) (reports a l) m)
+page-cases : (H : List ℕ → Id) (r : Round) (c : Call) (a : ℕ) (p : Page) (l : List Seen) → p ∈ pages a (seen H r c ∷ l) → ((reportedNumber r a ≡ 0) × (p ≡ reportedPage r a)) ⊎ (p ∈ pages a l)
+unfolding pages
+page-cases H r (deliver b buffer) a p l m = inr m
+page-cases H r (report c) a p l m = step (pick-out (eqb c a && eqb (reportedNumber r c) 0) (reportedPage r c) p (pages a l) m)
   where
-    step : (T (eqb c a) × (x ≡ reported r c)) ⊎ (x ∈ reports a l) → (x ≡ reported r a) ⊎ (x ∈ reports a l)
-    step (inl (t, e)) = inl (e ∙ ap (reported r) (eqb→eq c a t))
+    step : (T (eqb c a && eqb (reportedNumber r c) 0) × (p ≡ reportedPage r c)) ⊎ (p ∈ pages a l) → ((reportedNumber r a ≡ 0) × (p ≡ reportedPage r a)) ⊎ (p ∈ pages a l)
+    step (inl (t, e)) =
+        let same : c ≡ a = eqb→eq c a (and-l (eqb c a) (eqb (reportedNumber r c) 0) t) in
+        let zero : reportedNumber r c ≡ 0 = eqb→eq (reportedNumber r c) 0 (and-r (eqb c a) (eqb (reportedNumber r c) 0) t) in
+        inl (ap (reportedNumber r) (sym same) ∙ zero, e ∙ ap (reportedPage r) same)
     step (inr m) = inr m
 
 -- ---- along a list: A holds what is accepted in it, W what is written
@@ -110,7 +95,7 @@ module _ (laws : CallLaws) (H : List ℕ → Id) (rule : IdRule H) (A W : List (
       step (inl (e, d)) = subst (λ (s : Round). Reached H A W s × Grows r s) (sym (laws .refusal H r b buffer e d .0)) (reached, grows-refl r)
       step (inr ne) =
           let s = laws .step H rule r (reached .typed) b buffer ne in (
-            step-keeps H A W r b (given.delivery H r b buffer) (inA b (accepted-here b (given.delivery H r b buffer .outcome) (accepted l) ne))
+            step-keeps H A W r b (given.delivery H r b buffer) (inA b (pick-head (isTaken (outcomeNumber (given.delivery H r b buffer .outcome))) b (accepted l) (number-taken (given.delivery H r b buffer .outcome) ne)))
                 (λ e. inW (given.delivery H r b buffer .reply) (written-here (given.delivery H r b buffer .outcome) (given.delivery H r b buffer .reply) buffer (written l) e)) s reached,
             step-grows s,
           )
@@ -124,17 +109,17 @@ module _ (laws : CallLaws) (H : List ℕ → Id) (rule : IdRule H) (A W : List (
       let (y, h) = list-keeps (after H r c) l x (λ m i. inA m (accepted-tail (seen H r c) (run H (after H r c) l) m i)) (λ m i. inW m (written-tail (seen H r c) (run H (after H r c) l) m i)) in
       (y, grows-trans g h)
 
-  pub report-stands : (a : ℕ) (x : Report) (r : Round) (l : List Call) → Reached H A W r → Within (accepted (run H r l)) A → Within (written (run H r l)) W
-      → x ∈ reports a (run H r l) → Stands H A W a x (lastRound H r l)
-  unfolding run lastRound reports
-  report-stands a x r [] reached inA inW m = elim m [ ]
-  report-stands a x r (c ∷ l) reached inA inW m =
+  pub page-stands : (a : ℕ) (p : Page) (r : Round) (l : List Call) → Reached H A W r → Within (accepted (run H r l)) A → Within (written (run H r l)) W
+      → p ∈ pages a (run H r l) → Stands H A W a p (lastRound H r l)
+  unfolding run lastRound pages
+  page-stands a p r [] reached inA inW m = elim m [ ]
+  page-stands a p r (c ∷ l) reached inA inW m =
       let (y, g) = call-keeps r c (run H (after H r c) l) reached inA inW in
       let inA′ : Within (accepted (run H (after H r c) l)) A = λ n i. inA n (accepted-tail (seen H r c) (run H (after H r c) l) n i) in
       let inW′ : Within (written (run H (after H r c) l)) W = λ n i. inW n (written-tail (seen H r c) (run H (after H r c) l) n i) in
-      step (grows-trans g (list-keeps (after H r c) l y inA′ inW′ .1)) (λ i. report-stands a x (after H r c) l y inA′ inW′ i) (report-cases H r c a x (run H (after H r c) l) m)
+      step (grows-trans g (list-keeps (after H r c) l y inA′ inW′ .1)) (λ i. page-stands a p (after H r c) l y inA′ inW′ i) (page-cases H r c a p (run H (after H r c) l) m)
     where
-      step : Grows r (lastRound H (after H r c) l) → (x ∈ reports a (run H (after H r c) l) → Stands H A W a x (lastRound H (after H r c) l))
-          → (x ≡ reported r a) ⊎ (x ∈ reports a (run H (after H r c) l)) → Stands H A W a x (lastRound H (after H r c) l)
-      step g rest (inl e) = record { round = r; reached = reached; until = g; answers = e }
+      step : Grows r (lastRound H (after H r c) l) → (p ∈ pages a (run H (after H r c) l) → Stands H A W a p (lastRound H (after H r c) l))
+          → ((reportedNumber r a ≡ 0) × (p ≡ reportedPage r a)) ⊎ (p ∈ pages a (run H (after H r c) l)) → Stands H A W a p (lastRound H (after H r c) l)
+      step g rest (inl (n, e)) = record { round = r; reached = reached; until = g; taken = n; shows = e }
       step g rest (inr i) = rest i

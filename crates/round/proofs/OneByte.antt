@@ -21,8 +21,9 @@ use Rattle.round.specs.Holdings.{graphOf, isProposalAt, referencesAt, kn
 use Rattle.round.specs.Handed.{placeFits, refersBack, ownFits, fits}
 use Rattle.round.specs.Delivery.{refused, taken, delivery, delivered, withRecent}
 use Rattle.round.specs.Report.{told, reported}
-use Rattle.round.specs.Demands.{WidePlaceRefused, withPrevious, NoneInLastAndPrevious}
+use Rattle.round.specs.Demands.{Is17, WidePlaceRefused, withPrevious, NoneInLastAndPrevious}
 use Rattle.round.proofs.Fitting.{Fitting, fits-out, fits-in, back-out, place-cases, place-none}
+use Rattle.round.specs.Answers.{outcomeNumber, reportNumber}
 
 -- ---- a round that does not pass row 17
 pub unfit-delivered : (H : List ℕ → Id) (r : Round) (b buffer : List ℕ) → fits r ≡ false → delivered H r b buffer .outcome ≡ outcome.Refused Argument
@@ -32,6 +33,9 @@ unfit-delivered H r b buffer e = ap (λ (t : Bool). pick (not t || ltb (length b
 pub unfit-reported : (r : Round) (a : ℕ) → fits r ≡ false → reported r a ≡ answer.Refused Argument
 unfolding reported
 unfit-reported r a e = ap (λ (t : Bool). pick (not t || leb (r .graph .learners) a) (answer.Refused Argument) (told (report (graphOf r) (knownMessages r) a))) e
+
+pub unfit-is-17 : (r : Round) → fits r ≡ false → Is17 r
+unfit-is-17 r e = (λ H b buffer. ap outcomeNumber (unfit-delivered H r b buffer e), λ a. ap reportNumber (unfit-reported r a e))
 
 -- ---- references
 -- in a round that passes, each is to a place below 128
@@ -45,8 +49,7 @@ wide-unfit r p i l t wide = not-true (fits r) (not-T (fits r) (λ h. let k = nar
 
 pub widePlaceRefused : WidePlaceRefused
 widePlaceRefused r p i l t wide =
-    let e = wide-unfit r p i l t wide in
-    (λ H b buffer. unfit-delivered H r b buffer e, λ a. unfit-reported r a e)
+    unfit-is-17 r (wide-unfit r p i l t wide)
 
 -- ---- none
 -- what is written to one entry of a list is there, and every other entry is as it was

@@ -29,8 +29,10 @@ use Rattle.round.specs.Holdings.{isVoting, placeOf}
 use Rattle.round.specs.Handed.{fits}
 use Rattle.round.specs.Rows.{otherRound, referenceIds, previousId, voteRecord, messageOf, proposalRows, acceptorRows, firstOf}
 use Rattle.round.specs.Reply.{replyBytes, replyRecord, isSent}
-use Rattle.round.specs.Delivery.{Result, refused, sent, joins, answered, processed, hold, returned, entered, decidedBy, taken, delivery, replied}
-use Rattle.round.specs.Demands.{AddressedTo, RefusedLeavesAll, ReplyInFront, OtherRoundRefused, ReplySays, ReplyReadsBack}
+use Rattle.round.specs.Delivery.{Result, refused, sent, joins, answered, processed, hold, returned, entered, decidedBy, taken, delivery, delivered, replied}
+use Rattle.round.specs.Demands.{IdRule, Typed, AddressedTo, RefusedLeavesAll, ReplyInFront, OtherRoundRefused, ReplySays, ReplyReadsBack}
+use Rattle.round.specs.Answers.{outcomeNumber}
+use Rattle.round.proofs.Answers.{refused-number, silent-number, replied-number}
 use Rattle.round.proofs.OneDelivery.{Kept, tells}
 
 -- ---- what each answer says of the round and of the reply
@@ -42,7 +44,7 @@ pub record Shape (r : Round) (d : Result) : Type 0 where
 pub accepted-refused : (e : Refusal) → outcome.Accepted ≢ outcome.Refused e
 accepted-refused e k = let z : _≡_ {A = ℕ} 0 1 = cc in omega arith
 
-accepted-replied : (n : ℕ) → outcome.Accepted ≢ outcome.Replied n
+pub accepted-replied : (n : ℕ) → outcome.Accepted ≢ outcome.Replied n
 accepted-replied n k = let z : _≡_ {A = ℕ} 0 1 = cc in omega arith
 
 pub replied-refused : (n : ℕ) (e : Refusal) → outcome.Replied n ≢ outcome.Refused e
@@ -99,16 +101,20 @@ module _ (r : Round) where
     shape b buffer = shape-pick (not (fits r) || ltb (length buffer) replyLen) (refused r Argument) (taken H r b (reading b)) (shape-refused Argument) (shape-taken b (reading b))
 
 -- ---- "Nothing refused alters a round or a reply buffer."
-pub refused-leaves-all : RefusedLeavesAll
+pub refused-leaves-all : (H : List ℕ → Id) (r : Round) (b buffer : List ℕ) (e : Refusal) → delivered H r b buffer .outcome ≡ outcome.Refused e
+    → (delivered H r b buffer .round ≡ r) × (replied H r b buffer ≡ buffer)
 refused-leaves-all H r b buffer e k =
     let (x, y) = shape r H b buffer .refused e k in
     (x, ap (λ (z : List ℕ). fronted z buffer) y)
 
+pub refusedLeavesAll : RefusedLeavesAll
+refusedLeavesAll H r b buffer h = let (e, k) = refused-number (delivered H r b buffer .outcome) h in refused-leaves-all H r b buffer e k
+
 -- ---- "The reply fills the front of the buffer; bytes behind it keep their values, as do all bytes where there is no reply."
-pub reply-in-front : ReplyInFront
-reply-in-front H r b buffer = (
-  λ k. ap (λ (z : List ℕ). fronted z buffer) (shape r H b buffer .accepted k),
-  λ n k. subst (λ (m : ℕ). drop m (replied H r b buffer) ≡ drop m buffer) (shape r H b buffer .replied n k)
+pub replyInFront : ReplyInFront
+replyInFront H r b buffer = (
+  λ k. ap (λ (z : List ℕ). fronted z buffer) (shape r H b buffer .accepted (silent-number (delivered H r b buffer .outcome) k)),
+  λ n k. subst (λ (m : ℕ). drop m (replied H r b buffer) ≡ drop m buffer) (shape r H b buffer .replied n (replied-number (delivered H r b buffer .outcome) n k))
       (drop-append-seam (delivery H r b buffer .reply) (drop (length (delivery H r b buffer .reply)) buffer)),
 )
 
@@ -142,17 +148,18 @@ module _ (H : List ℕ → Id) (r : Round) (b : List ℕ) where
   addressed-other house bay (inr (f, e, h, k)) other = ap (λ (x : Reading). taken H r b x .outcome) e ∙ acceptor-other f (λ (p, q). other (sym h ∙ p, sym k ∙ q))
 
 pick-other : (r : Round) (t : Bool) (d : Result) → d .outcome ≡ outcome.Refused OtherRound
-    → (pick t (refused r Argument) d .outcome ≡ outcome.Refused OtherRound) ⊎ (pick t (refused r Argument) d .outcome ≡ outcome.Refused Argument)
+    → (outcomeNumber (pick t (refused r Argument) d .outcome) ≡ 8) ⊎ (outcomeNumber (pick t (refused r Argument) d .outcome) ≡ 17)
 pick-other r true d e = inr refl
-pick-other r false d e = inl e
+pick-other r false d e = inl (ap outcomeNumber e)
 
-pub other-round-refused : OtherRoundRefused
+pub otherRoundRefused : OtherRoundRefused
 unfolding delivery
-other-round-refused H r b buffer house bay to other =
+otherRoundRefused H r b buffer house bay to other =
     pick-other r (not (fits r) || ltb (length buffer) replyLen) (taken H r b (reading b)) (addressed-other H r b house bay to other)
 
 -- ---- "Messages written read back to the same fields"
-pub reply-reads-back : ReplyReadsBack
+pub reply-reads-back : (H : List ℕ → Id) → IdRule H → (r : Round) → Typed r → (b buffer : List ℕ) (n : ℕ)
+    → delivered H r b buffer .outcome ≡ outcome.Replied n → ReplySays r (H b) (take n (replied H r b buffer))
 reply-reads-back H rule r typed b buffer n k =
     let d = delivery H r b buffer in
     let kept : Kept d = λ e q. replied-refused n e (sym k ∙ q) in
@@ -160,3 +167,6 @@ reply-reads-back H rule r typed b buffer n k =
     let front : take n (replied H r b buffer) ≡ d .reply =
     subst (λ (m : ℕ). take m (replied H r b buffer) ≡ d .reply) (shape r H b buffer .replied n k) (take-append-seam (d .reply) (drop (length (d .reply)) buffer)) in
     subst (ReplySays r (H b)) (sym front) said
+
+pub replyReadsBack : ReplyReadsBack
+replyReadsBack H rule r typed b buffer n k = reply-reads-back H rule r typed b buffer n (replied-number (delivered H r b buffer .outcome) n k)

@@ -1,10 +1,10 @@
 -- THE LAW OF ONE DELIVERY: what a delivery that is not refused does.
-use mathlib.Core.Path.{_≡_, refl, sym, subst}
+use mathlib.Core.Path.{_≡_, refl, sym, subst, _∙_}
 use mathlib.Core.Logic.{_≢_}
 use mathlib.Core.Bool.{Bool, true, false, not, _||_}
 use mathlib.Core.Option.{Option, none, some}
 use mathlib.Core.List.{List}
-use Prim.Native.Nat.{ℕ}
+use Prim.Native.Nat.{ℕ, _≤_}
 use lib.Dec.{T, ltb}
 use lib.ListN.{length}
 use Rattle.base.specs.Tests.{pick}
@@ -17,12 +17,13 @@ use Rattle.protocol.specs.Ids.{Id}
 use Rattle.protocol.specs.Table.{Held, offers}
 use Rattle.round.specs.Round.{Round}
 use Rattle.round.specs.declared.Outcome.the-variants as outcome
-use Rattle.round.specs.Limits.{replyLen}
+use Rattle.round.specs.Limits.{maxHeld, replyLen}
 use Rattle.round.specs.Holdings.{placeOf}
 use Rattle.round.specs.Handed.{fits}
 use Rattle.round.specs.Rows.{referenceIds, previousId, voteRecord, messageOf, proposalRows, acceptorRows, firstOf}
-use Rattle.round.specs.Delivery.{Result, refused, decidedBy, taken, delivery}
+use Rattle.round.specs.Delivery.{Result, refused, entered, decidedBy, taken, delivery}
 use Rattle.round.specs.Demands.{IdRule, Typed}
+use Rattle.round.specs.ShutOut.{recordRead}
 use Rattle.round.proofs.Step.{StepLaw}
 use Rattle.round.proofs.Fitting.{Fitting, fits-out}
 use Rattle.round.proofs.Accepting.{Accepts, proposal-accepts, acceptor-accepts}
@@ -38,26 +39,35 @@ past-argument r true true d k = absurd (k Argument refl)
 past-argument r true false d k = (tt, refl)
 past-argument r false short d k = absurd (k Argument refl)
 
-module _ (H : List ℕ → Id) (rule : IdRule H) (r : Round) (typed : Typed r) (fit : Fitting r) (b : List ℕ) where
-  decides : (h : Held) (o : Option Refusal) → (o ≡ none → Accepts H r b h) → Kept (decidedBy H r (H b) h o) → Tells H r b (decidedBy H r (H b) h o)
-  decides h none f k = enters H rule r typed fit b h (f refl) (placeOf r (H b)) refl
+-- what is not refused is entered: no row turns down the message h that the bytes b say
+pub record Taken (H : List ℕ → Id) (r : Round) (b : List ℕ) (h : Held) (d : Result) : Type 0 where
+  pub accepts : Accepts H r b h
+  pub enters : d ≡ entered H r h (placeOf r (H b))
+
+module _ (H : List ℕ → Id) (rule : IdRule H) (r : Round) (most : r .held ≤ maxHeld) (b : List ℕ) where
+  decides : (h : Held) (o : Option Refusal) → (o ≡ none → Accepts H r b h) → Kept (decidedBy H r (H b) h o) → Taken H r b h (decidedBy H r (H b) h o)
+  decides h none f k = record { accepts = f refl; enters = refl }
   decides h (some e) f k = absurd (k e refl)
 
-  takes : (x : Reading) → reading b ≡ x → Kept (taken H r b x) → Tells H r b (taken H r b x)
+  takes : (x : Reading) → reading b ≡ x → Kept (taken H r b x) → Taken H r b (recordRead H r b x) (taken H r b x)
   takes (Refused e) q k = absurd (k e refl)
-  takes (OfProposer m) q k = decides (offers (H b) (m .proposer) (m .ballot)) (firstOf (proposalRows r (H b) m)) (proposal-accepts H rule r (fit .most) b m q) k
+  takes (OfProposer m) q k = decides (offers (H b) (m .proposer) (m .ballot)) (firstOf (proposalRows r (H b) m)) (proposal-accepts H rule r most b m q) k
   takes (OfAcceptor m) q k =
       let h = voteRecord r (H b) (m .signer) (previousId b m) (referenceIds b m) in
-      decides h (firstOf (acceptorRows r (H b) m (previousId b m) (referenceIds b m) (messageOf r h))) (acceptor-accepts H rule r (fit .most) b m q) k
+      decides h (firstOf (acceptorRows r (H b) m (previousId b m) (referenceIds b m) (messageOf r h))) (acceptor-accepts H rule r most b m q) k
 
-  pub taken-tells : Kept (taken H r b (reading b)) → Tells H r b (taken H r b (reading b))
-  taken-tells = takes (reading b) refl
+pub taking : (H : List ℕ → Id) → IdRule H → (r : Round) (b buffer : List ℕ) → Kept (delivery H r b buffer)
+    → Fitting r × Taken H r b (recordRead H r b (reading b)) (delivery H r b buffer)
+unfolding delivery
+taking H rule r b buffer k =
+    let (f, e) = past-argument r (fits r) (ltb (length buffer) replyLen) (taken H r b (reading b)) k in
+    let t = takes H rule r (fits-out r f .most) b (reading b) refl (subst Kept e k) in
+    (fits-out r f, record { accepts = t .accepts; enters = e ∙ t .enters })
 
 pub tells : (H : List ℕ → Id) → IdRule H → (r : Round) → Typed r → (b buffer : List ℕ) → Kept (delivery H r b buffer) → Tells H r b (delivery H r b buffer)
-unfolding delivery
 tells H rule r typed b buffer k =
-    let (f, e) = past-argument r (fits r) (ltb (length buffer) replyLen) (taken H r b (reading b)) k in
-    subst (λ (d : Result). Tells H r b d) (sym e) (taken-tells H rule r typed (fits-out r f) b (subst Kept e k))
+    let (fit, t) = taking H rule r b buffer k in
+    subst (λ (d : Result). Tells H r b d) (sym (t .enters)) (enters H rule r typed fit b (recordRead H r b (reading b)) (t .accepts) (placeOf r (H b)) refl)
 
 pub step : StepLaw
 step H rule r typed b buffer k = tells H rule r typed b buffer k .step

@@ -16,9 +16,9 @@ use Rattle.round.specs.Rows.{isKnownId, lacks, unchained, malformed1b, f
 use Rattle.round.specs.Demands.{RowsInOrder}
 
 -- ---- "Checks run in this order: .. then 8 to 16"
-pub rows-in-order : RowsInOrder
+pub rowsInOrder : RowsInOrder
 unfolding proposalRows acceptorRows
-rows-in-order r i = (λ m. refl, λ m previous ids tree. refl)
+rowsInOrder r i = (λ m. refl, λ m previous ids tree. refl)
 
 -- ---- no row applies: each is false
 first-none : (b : Bool) (e : Refusal) (l : List (Bool × Refusal)) → firstOf ((b, e) ∷ l) ≡ none → T (not b) × (firstOf l ≡ none)

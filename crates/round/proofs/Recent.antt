@@ -1,6 +1,6 @@
 -- Recent: a vote that is not answered joins it and a proposal never does, and last sent stays in it.
 use mathlib.Core.Path.{_≡_, refl, sym, ap, subst, _∙_}
-use mathlib.Core.Logic.{_⊎_, inl, inr}
+use mathlib.Core.Logic.{_⊎_, inl, inr, _↔_}
 use mathlib.Core.Bool.{Bool, true, false, not}
 use mathlib.Core.Option.{none, some}
 use mathlib.Core.List.{List}
@@ -13,7 +13,7 @@ use Rattle.base.specs.Tests.{pick}
 use Rattle.base.proofs.Tests.{dec-T, neqb→ne}
 use Rattle.message.specs.Layout.{proposalKind}
 use Rattle.protocol.specs.Ids.{Id}
-use Rattle.protocol.specs.Table.{Held, offered}
+use Rattle.protocol.specs.Table.{Held, heldId, offered}
 use Rattle.round.specs.Round.{Round}
 use Rattle.round.specs.Limits.{maxHeld, noPlace}
 use Rattle.round.specs.Holdings.{idAt, named, isRecent, isProposalAt}
@@ -21,7 +21,7 @@ use Rattle.round.specs.Delivery.{hold, withRecent, recentWith}
 use Rattle.round.specs.Demands.{Typed, RecentId}
 use Rattle.round.proofs.Fitting.{Fitting, named-kept}
 use Rattle.round.proofs.Holding.{Storable, hold-is}
-use Rattle.round.proofs.Growing.{hold-keeps, hold-appends, hold-last, hold-kind}
+use Rattle.round.proofs.Growing.{hold-keeps, hold-appends, hold-last, hold-kind, hold-id}
 use Rattle.round.proofs.GraphFits.{zeros-at}
 
 -- THE INVARIANT of a round reached by calls: as long as there is a last sent message, it is in recent, so the next reply refers to it; and
@@ -83,6 +83,28 @@ module _ (r : Round) (p : ℕ) where
             (q, l, joined-cases (λ x. Marked x q) t (λ v. set-marked size inside q t), k);
         votes = λ q l. joined-cases (λ x. Marked x q → T (not (isProposalAt r q))) (inv .votes q l) (λ v. marked-set v q (inv .votes q l));
       }
+
+  -- its ids then: those that were in it, and that of p where p holds a vote
+  pub joined-ids : length (r .recent) ≡ maxHeld → p < maxHeld → p < r .held → (i : Id)
+      → RecentId (withRecent r (r .last) (recentWith r p)) i ↔ (RecentId r i ⊎ ((i ≡ idAt r p) × T (not (isProposalAt r p))))
+  joined-ids size inside here i = (λ (q, l, t, e). joined-cases (λ x. Marked x q → Then) (λ m. inl (q, l, m, e)) (λ v m. other q l e v m (dec-T (eqb q p))) t, from)
+    where
+      Then : Type 0
+      Then = RecentId r i ⊎ ((i ≡ idAt r p) × T (not (isProposalAt r p)))
+
+      other : (q : ℕ) → q < r .held → idAt r q ≡ i → T (not (isProposalAt r p)) → Marked (set (r .recent) p 1) q → T (eqb q p) ⊎ T (not (eqb q p)) → Then
+      other q l e v m (inl x) = inr (sym e ∙ ap (idAt r) (eqb→eq q p x), v)
+      other q l e v m (inr x) = inl (q, l, subst (λ (n : ℕ). T (not (eqb n 0))) (getD-set-other (r .recent) p q 1 0 (neqb→ne q p x)) m, e)
+
+      from : Then → RecentId (withRecent r (r .last) (recentWith r p)) i
+      from (inl (q, l, t, e)) = (q, l, joined-cases (λ x. Marked x q) t (λ v. set-marked size inside q t), e)
+      from (inr (e, v)) = (
+        p,
+        here,
+        subst (λ (x : List ℕ). Marked x p) (sym (vote-joins v))
+            (subst (λ (n : ℕ). T (not (eqb n 0))) (sym (getD-set-same (r .recent) p 1 0 (omega arith))) tt),
+        sym e,
+      )
 
 -- ---- a record put behind the held ones is not in recent
 module _ (r : Round) (typed : Typed r) (fit : Fitting r) (room : r .held < maxHeld) (h : Held) (can : Storable r h) (k : ℕ) where
@@ -150,15 +172,22 @@ module _ (r : Round) (typed : Typed r) (fit : Fitting r) (room : r .held < maxHe
       by true e = let z : _≡_ {A = ℕ} 0 1 = cc in absurd (omega arith)
       by false e = cc
 
+  -- z is all that is in recent
+  pub sent-ids : (i : Id) → RecentId t i ↔ (i ≡ heldId h)
+  sent-ids i = (
+    λ (q, l, m, e). sym e ∙ ap (idAt (hold r h 0)) (marked-only q m) ∙ hold-id r typed fit room h can 0,
+    λ e. (
+      r .held,
+      omega (arith, hold-appends r typed fit room h can 0 .held),
+      subst (λ (n : ℕ). T (not (eqb n 0))) (sym (getD-set-same (replicate maxHeld 0) (r .held) 1 0 (omega (arith, length-replicate {A = ℕ} maxHeld 0)))) tt,
+      hold-id r typed fit room h can 0 ∙ sym e,
+    ),
+  )
+
   pub sent-holds : RecentHolds t
   sent-holds =
       record {
-        last = λ i e. (
-          r .held,
-          omega (arith, hold-appends r typed fit room h can 0 .held),
-          subst (λ (n : ℕ). T (not (eqb n 0))) (sym (getD-set-same (replicate maxHeld 0) (r .held) 1 0 (omega (arith, length-replicate {A = ℕ} maxHeld 0)))) tt,
-          same-id i e,
-        );
+        last = λ i e. sent-ids i .1 (sym (same-id i e) ∙ hold-id r typed fit room h can 0);
         votes = λ q l m. subst (λ (k : ℕ). T (not (isProposalAt (hold r h 0) k))) (sym (marked-only q m))
             (subst (λ (b : Bool). T (not b)) (sym (hold-kind r typed fit room h can 0)) vote);
       }

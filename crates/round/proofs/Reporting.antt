@@ -17,22 +17,24 @@ use Rattle.protocol.proofs.Agreement.{no-split, reportsAgree}
 use Rattle.protocol.proofs.Growth.{messages-append}
 use Rattle.protocol.proofs.Tables.{messages-within}
 use Rattle.round.specs.Round.{Round}
-use Rattle.round.specs.declared.Report.{Report}
 use Rattle.round.specs.declared.Report.the-variants.{Decided, Split}
 use Rattle.round.specs.Holdings.{graphOf, tableOf, knownPlaces, knownMessages}
-use Rattle.round.specs.Lists.{Call, run, lastRound, accepted, written, reports}
+use Rattle.round.specs.Report.{reported}
+use Rattle.round.specs.Answers.{decidedState, splitState, Page}
+use Rattle.round.specs.Lists.{Call, run, lastRound, accepted, written, pages}
 use Rattle.round.specs.Demands.{IdRule, Starts}
+use Rattle.round.proofs.Answers.{decided-page, split-page}
 use Rattle.round.proofs.CallLaws.{CallLaws}
 use Rattle.round.proofs.Canonical.{table-size}
 use Rattle.round.proofs.Lists.{Stands}
-use Rattle.round.proofs.Known.{known-out, known-stays, reached-last, report-in-list}
+use Rattle.round.proofs.Known.{known-out, known-stays, reached-last, page-in-list}
 use Rattle.round.proofs.Bytes.{decided-report, split-report}
 
 -- some messages of M give c the report v
 abbrev pub Reports : LearnerGraph → List Message → ℕ → Verdict → Type 0
 Reports G M c v = (K : List Message) × Within K M × (report G K c ≡ v)
 
-module _ {H : List ℕ → Id} {A W : List (List ℕ)} {c : ℕ} {x : Report} {last : Round} (stands : Stands H A W c x last) (G : LearnerGraph) (graph : graphOf (stands .round) ≡ G) where
+module _ {H : List ℕ → Id} {A W : List (List ℕ)} {c : ℕ} {p : Page} {last : Round} (stands : Stands H A W c p last) (G : LearnerGraph) (graph : graphOf (stands .round) ≡ G) where
   stands-reports : (v : Verdict) → report (graphOf (stands .round)) (knownMessages (stands .round)) c ≡ v → Reports G (messages (tableOf last) (knownPlaces last)) c v
   stands-reports v e = (
     messages (tableOf last) (knownPlaces (stands .round)),
@@ -51,18 +53,26 @@ module _ {H : List ℕ → Id} {A W : List (List ℕ)} {c : ℕ} {x : Report} {l
 -- ---- a list from an opening: its reports for c are reports over any messages M that hold those known at its end
 module _ (laws : CallLaws) {H : List ℕ → Id} (rule : IdRule H) {file : List ℕ} {house bay own : ℕ} {r : Round} (starts : Starts file house bay own r) (l : List Call)
     (c : ℕ) (G : LearnerGraph) (graph : graphOf r ≡ G) (M : List Message) (inM : Within (messages (tableOf (lastRound H r l)) (knownPlaces (lastRound H r l))) M) where
-  over : (v : Verdict) (x : Report) (s : Stands H (accepted (run H r l)) (written (run H r l)) c x (lastRound H r l))
+  over : (v : Verdict) (p : Page) (s : Stands H (accepted (run H r l)) (written (run H r l)) c p (lastRound H r l))
       → report (graphOf (s .round)) (knownMessages (s .round)) c ≡ v → Reports G M c v
-  over v x s e =
+  over v p s e =
       let same : s .round .graph ≡ r .graph = s .until .same .graph ∙ sym (reached-last laws rule starts l .1 .same .graph) in
       let (K, i, d) = stands-reports s G (ap viewOf same ∙ graph) v e in
       (K, λ m j. inM m (i m j), d)
 
-  pub decided-over : (x : ℕ) → Decided x ∈ reports c (run H r l) → Reports G M c (decided x)
-  decided-over x i = let s = report-in-list laws rule starts l c (Decided x) i in over (decided x) (Decided x) s (decided-report (s .round) c x (sym (s .answers)) .1)
+  pub decided-over : (p : Page) → p ∈ pages c (run H r l) → p .state ≡ decidedState → Reports G M c (decided (p .least))
+  decided-over p i d =
+      let s = page-in-list laws rule starts l c p i in
+      let x = reported (s .round) c in
+      let e : x ≡ Decided (p .least) = decided-page x (s .taken) (sym (ap (λ (q : Page). q .state) (s .shows)) ∙ d) ∙ ap (λ (q : Page). Decided (q .least)) (sym (s .shows)) in
+      over (decided (p .least)) p s (decided-report (s .round) c (p .least) e .1)
 
-  pub split-over : (x y : ℕ) → Split x y ∈ reports c (run H r l) → Reports G M c (split x y)
-  split-over x y i = let s = report-in-list laws rule starts l c (Split x y) i in over (split x y) (Split x y) s (split-report (s .round) c x y (sym (s .answers)))
+  pub split-over : (p : Page) → p ∈ pages c (run H r l) → p .state ≡ splitState → Reports G M c (split (p .least) (p .other))
+  split-over p i d =
+      let s = page-in-list laws rule starts l c p i in
+      let x = reported (s .round) c in
+      let e : x ≡ Split (p .least) (p .other) = split-page x (s .taken) (sym (ap (λ (q : Page). q .state) (s .shows)) ∙ d) ∙ ap (λ (q : Page). Split (q .least) (q .other)) (sym (s .shows)) in
+      over (split (p .least) (p .other)) p s (split-report (s .round) c (p .least) (p .other) e)
 
 -- ---- one value in one lawful set of messages
 module _ (G : LearnerGraph) (sound : SoundGraph G) (M : List Message) (law : Lawful M) where

@@ -20,7 +20,7 @@ use Rattle.message.specs.Writer.{acceptorBytes, hasPrevious}
 use Rattle.message.specs.Demands.{AcceptorFields, AcceptorBack, acceptorOf}
 use Rattle.message.specs.declared.AcceptorMessage.{AcceptorMessage}
 use Rattle.message.specs.declared.Reading.the-variants.{OfAcceptor}
-use Rattle.message.proofs.RoundTrip.{acceptor-reads-back}
+use Rattle.message.proofs.RoundTrip.{acceptorReadsBack}
 use Rattle.protocol.specs.Ids.{Id}
 use Rattle.round.specs.Round.{Round}
 use Rattle.round.specs.Limits.{maxHeld, noPlace}
@@ -112,7 +112,7 @@ module _ (r : Round) (typed : Typed r) (fit : Fitting r) (p : ℕ) (here : p < r
   z = acceptorBytes (r .house) (r .bay) (r .own) last′ n ids
 
   back : AcceptorBack (r .house) (r .bay) (r .own) last′ n ids z
-  back = acceptor-reads-back (r .house) (r .bay) (r .own) last′ n ids writes
+  back = acceptorReadsBack (r .house) (r .bay) (r .own) last′ n ids writes
 
   abbrev pub replyFields : AcceptorMessage
   replyFields = acceptorOf (r .house) (r .bay) (r .own) (orEmpty r (named r (r .last))) (length (replyPlaces r p))

@@ -9,7 +9,7 @@ use Rattle.base.proofs.Bytes.{bytes-length}
 use Rattle.digest.specs.declared.State.{State}
 use Rattle.digest.specs.Preprocessing.{padded}
 use Rattle.digest.specs.Sha256.{hash, joined, sha256}
-use Rattle.round.specs.Demands.{IdRule}
+use Rattle.round.specs.Demands.{Sha256IsIdRule}
 
 octets-append : (a b : List ℕ) → Octets a → Octets b → Octets (a ++ b)
 octets-append [] b h k i = k i
@@ -53,7 +53,7 @@ joined-length : (H : State) → length (joined H) ≡ 32
 unfolding joined behind wordsBehind
 joined-length H = behind-length (bytes 4 (H .a)) (wordsBehind H) 4 (bytes-length 4 (H .a))
 
-pub sha256IsIdRule : IdRule sha256
+pub sha256IsIdRule : Sha256IsIdRule
 unfolding sha256
 sha256IsIdRule =
     record {

@@ -16,7 +16,7 @@ use Rattle.protocol.specs.Ids.{Id}
 use Rattle.protocol.specs.Message.{Message, isProposal, proposed, tran, ballot}
 use Rattle.protocol.specs.Report.{decided}
 use Rattle.protocol.specs.Table.{at, offered, tree}
-use Rattle.protocol.specs.Theorems.{Peopled}
+use Rattle.protocol.specs.Equations.{Peopled}
 use Rattle.protocol.proofs.Ballot.{ballot-proposal}
 use Rattle.protocol.proofs.Report.{report-law}
 use Rattle.protocol.proofs.Validity.{validity}
@@ -26,14 +26,16 @@ use Rattle.round.specs.Round.{Round}
 use Rattle.round.specs.declared.Report.the-variants.{Decided}
 use Rattle.round.specs.Holdings.{graphOf, tableOf, knownPlaces, knownMessages}
 use Rattle.round.specs.Report.{reported}
+use Rattle.round.specs.Answers.{Page}
 use Rattle.round.specs.Lists.{run, lastRound, accepted, written}
 use Rattle.round.specs.Demands.{ValidityOverLists}
 use Rattle.round.proofs.CallLaws.{CallLaws}
 use Rattle.round.proofs.Canonical.{table-size}
 use Rattle.round.proofs.Kept.{Source}
 use Rattle.round.proofs.Reached.{Reached}
+use Rattle.round.proofs.Answers.{decided-page}
 use Rattle.round.proofs.Lists.{Stands}
-use Rattle.round.proofs.Known.{known-out, reached-last, report-in-list}
+use Rattle.round.proofs.Known.{known-out, reached-last, page-in-list}
 use Rattle.round.proofs.Bytes.{heldBallot, node-proposed, proposal-read, decided-report}
 
 -- a proposal of ballot x was accepted
@@ -75,10 +77,12 @@ module _ {H : List ℕ → Id} {A W : List (List ℕ)} {s : Round} (reached : Re
       (held-offered j (omega (arith, known-out s p known .0)) (subst (λ (n : Message). T (isProposal n)) c t))
 
 pub validityOverLists : CallLaws → ValidityOverLists
-validityOverLists laws H rule file house bay own r starts l a x m =
+validityOverLists laws H rule file house bay own r starts l a p m d =
     let fresh = laws .opening file house bay own r starts in
-    let stands : Stands H (accepted (run H r l)) (written (run H r l)) a (Decided x) (lastRound H r l) = report-in-list laws rule starts l a (Decided x) m in
+    let stands : Stands H (accepted (run H r l)) (written (run H r l)) a p (lastRound H r l) = page-in-list laws rule starts l a p m in
+    let x = reported (stands .round) a in
+    let e : x ≡ Decided (p .least) = decided-page x (stands .taken) (sym (ap (λ (q : Page). q .state) (stands .shows)) ∙ d) ∙ ap (λ (q : Page). Decided (q .least)) (sym (stands .shows)) in
     let graph : r .graph ≡ stands .round .graph = reached-last laws rule starts l .1 .same .graph ∙ sym (stands .until .same .graph) in
-    let learner : a < stands .round .graph .learners = decided-report (stands .round) a x (sym (stands .answers)) .0 in
-    decided-offered (stands .reached) a x
-    (subst (λ (g : Graph). a < g .learners → Peopled (viewOf g) a) graph (fresh .peopled a) learner) (sym (stands .answers))
+    let learner : a < stands .round .graph .learners = decided-report (stands .round) a (p .least) e .0 in
+    decided-offered (stands .reached) a (p .least)
+    (subst (λ (g : Graph). a < g .learners → Peopled (viewOf g) a) graph (fresh .peopled a) learner) e

@@ -84,6 +84,16 @@ hold r (says i s p places) known = withRow r (putAt (r .references) (maxHeld * r
 abbrev pub returned : Round → ℕ → Round
 returned r p = withMarks r (r .last) (set (r .known) p 1) (r .recent)
 
+-- an accepted message becomes known: o is the place that its id names, where it awaited its return; else it goes behind the others
+abbrev pub enteredIn : Round → Held → Option ℕ → Round
+enteredIn r h none = hold r h 1
+enteredIn r h (some p) = returned r p
+
+-- and this is its place then
+abbrev pub enteredAt : Round → Option ℕ → ℕ
+enteredAt r none = r .held
+enteredAt r (some p) = p
+
 -- recent and last sent, anew
 abbrev pub withRecent : Round → ℕ → List ℕ → Round
 withRecent r last recent = withMarks r last (r .known) recent
@@ -133,10 +143,9 @@ module _ (H : List ℕ → Id) where
   unfoldable pub processed : Round → ℕ → Result
   processed r p = pick (isVoting r) (answered r p (replyBytes r p)) (record { outcome = outcome.Accepted; round = r; reply = [] })
 
-  -- ---- an accepted message becomes known: at the place where it awaited its return, or behind the others
+  -- ---- an accepted message becomes known, and is answered
   abbrev pub entered : Round → Held → Option ℕ → Result
-  entered r h none = processed (hold r h 1) (r .held)
-  entered r h (some p) = processed (returned r p) p
+  entered r h o = processed (enteredIn r h o) (enteredAt r o)
 
   -- refused by the first row that applies, or else entered
   abbrev pub decidedBy : Round → Id → Held → Option Refusal → Result

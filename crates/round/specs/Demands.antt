@@ -5,16 +5,18 @@ use mathlib.Core.Logic.{_≢_, _⊎_}
 use mathlib.Core.Bool.{Bool, not}
 use mathlib.Core.Option.{Option, none, some, Option·map}
 use mathlib.Core.List.{List, [], _∷_, _++_, map}
-use Prim.Native.Nat.{ℕ, _<_, _≤_, _*_}
+use Prim.Native.Nat.{ℕ, _+_, _<_, _≤_, _*_}
 use lib.Dec.{T}
 use lib.ListN.{length, getD, take, drop, set}
 use Rattle.base.specs.Tests.{_∈_, pick, any}
 use Rattle.base.specs.Refusals.{numberOf}
 use Rattle.base.specs.declared.refusal.Refusal.{Refusal}
-use Rattle.base.specs.declared.refusal.Refusal.the-variants.{OtherRound, Argument}
 use Rattle.base.specs.Ballots.{valueOf}
 use Rattle.digest.specs.Sha256.{sha256}
+use Rattle.graph.specs.Answers.{answerNumber}
 use Rattle.graph.specs.LearnerGraph.{LearnerGraph, isSafe}
+use Rattle.graphfile.specs.File.{answerOf}
+use Rattle.graphfile.specs.Arrays.{readingOf}
 use Rattle.message.specs.Layout.{idLen}
 use Rattle.message.specs.Reader.{reading}
 use Rattle.message.specs.declared.Proposal.{Proposal}
@@ -25,32 +27,30 @@ use Rattle.protocol.specs.Message.{Message, isProposal, tran, caught}
 use Rattle.protocol.specs.November.{caughtNovember}
 use Rattle.protocol.specs.Table.{tree, reach}
 use Rattle.round.specs.Round.{Round}
-use Rattle.round.specs.declared.Opening.the-variants.{Opened}
-use Rattle.round.specs.declared.Outcome.the-variants as outcome
-use Rattle.round.specs.declared.Report.{Report}
-use Rattle.round.specs.declared.Report.the-variants as answer
-use Rattle.round.specs.declared.Report.the-variants.{Decided, Split}
 use Rattle.round.specs.Limits.{maxHeld, noPlace, listening}
 use Rattle.round.specs.Holdings.{graphOf, idAt, named, isProposalAt, referencesAt, isRecent, tableOf, knownPlaces}
 use Rattle.round.specs.Handed.{fits}
 use Rattle.round.specs.Opening.{opened}
 use Rattle.round.specs.Rows.{referenceIds, previousId, otherRound, foreign, isKnownId, lacks, unchained, voteRecord, messageOf, malformed1b, malformed2a, full, proposalRows, acceptorRows, firstOf}
 use Rattle.round.specs.Delivery.{delivered, replied, withRecent}
-use Rattle.round.specs.Report.{reported}
-use Rattle.round.specs.Lists.{Call, run, lastRound, accepted, written, reports}
+use Rattle.round.specs.Answers.{openingNumber, withReply, isTaken, decidedState, splitState, Page, deliveryNumber, reportedNumber}
+use Rattle.round.specs.Lists.{Call, run, lastRound, accepted, written, pages}
 
 -- an id is 32 bytes
 pub record IdRule (H : List ℕ → Id) : Type 0 where
   pub size : (b : List ℕ) → length (H b) ≡ 32
   pub bytes : (b : List ℕ) (i : ℕ) → getD (H b) i 0 < 256
 
+-- so it is with SHA-256
+abbrev pub Sha256IsIdRule : Type 0
+Sha256IsIdRule = IdRule sha256
+
 -- an opening that was not refused, of numbers that the call's types can hold
 pub record Starts (file : List ℕ) (house bay own : ℕ) (r : Round) : Type 0 where
-  pub opens : opened file house bay own .answer ≡ Opened
+  pub opens : openingNumber (opened file house bay own .answer) ≡ 0
   pub gives : r ≡ opened file house bay own .round
   pub houseFits : house < 65536
   pub bayFits : bay < 65536
-  pub ownFits : own < 65536
 
 -- the numbers that the types of a round's fields can hold
 pub record Typed (r : Round) : Type 0 where
@@ -91,9 +91,9 @@ abbrev pub NoCollision : (List ℕ → Id) → List (List ℕ) → Type 0
 NoCollision H M = (m n : List ℕ) → m ∈ M → n ∈ M → H m ≡ H n → m ≡ n
 
 -- "all decided reports .. give one value, and none .. is a split"
-pub record OneValue (l : List Report) : Type 0 where
-  pub values : (x y : ℕ) → Decided x ∈ l → Decided y ∈ l → valueOf x ≡ valueOf y
-  pub whole : (x y : ℕ) → Split x y ∈ l → ⊥
+pub record OneValue (l : List Page) : Type 0 where
+  pub values : (p q : Page) → p ∈ l → q ∈ l → p .state ≡ decidedState → q .state ≡ decidedState → valueOf (p .least) ≡ valueOf (q .least)
+  pub whole : (p : Page) → p ∈ l → p .state ≢ splitState
 
 -- "Learner A and learner B follow one house and bay under one accepted graph, each from a freshly opened round. Take every two lists of
 -- deliveries and reports, refused ones included, one on A's round and one on B's .."
@@ -103,7 +103,7 @@ AgreementWith H = (file : List ℕ) (house bay ownA ownB : ℕ) (rA rB : Round) 
     → (lA lB : List Call)
     → SafeEdge (graphOf rA) (accepted (run H rA lA) ++ accepted (run H rB lB)) a b
     → NoCollision H ((accepted (run H rA lA) ++ accepted (run H rB lB)) ++ (written (run H rA lA) ++ written (run H rB lB)))
-    → OneValue (reports a (run H rA lA) ++ reports b (run H rB lB))
+    → OneValue (pages a (run H rA lA) ++ pages b (run H rB lB))
 
 abbrev pub AgreementOverLists : Type 0
 AgreementOverLists = (H : List ℕ → Id) → IdRule H → AgreementWith H
@@ -134,21 +134,26 @@ DemandThree = AgreementWith sha256 × ChainWith sha256
 -- ---- DEMAND 1, on each call
 -- "Nothing refused alters a round or a reply buffer."
 abbrev pub RefusedLeavesAll : Type 0
-RefusedLeavesAll = (H : List ℕ → Id) (r : Round) (b buffer : List ℕ) (e : Refusal)
-    → delivered H r b buffer .outcome ≡ outcome.Refused e
+RefusedLeavesAll = (H : List ℕ → Id) (r : Round) (b buffer : List ℕ) → T (not (isTaken (deliveryNumber H r b buffer)))
     → (delivered H r b buffer .round ≡ r) × (replied H r b buffer ≡ buffer)
 
 -- "The reply fills the front of the buffer; bytes behind it keep their values, as do all bytes where there is no reply."
 abbrev pub ReplyInFront : Type 0
 ReplyInFront = (H : List ℕ → Id) (r : Round) (b buffer : List ℕ)
-    → ((delivered H r b buffer .outcome ≡ outcome.Accepted → replied H r b buffer ≡ buffer)
-    × ((n : ℕ) → delivered H r b buffer .outcome ≡ outcome.Replied n → drop n (replied H r b buffer) ≡ drop n buffer))
+    → ((deliveryNumber H r b buffer ≡ 0 → replied H r b buffer ≡ buffer)
+    × ((n : ℕ) → deliveryNumber H r b buffer ≡ withReply + n → drop n (replied H r b buffer) ≡ drop n buffer))
 
 -- "No message alters a round of another house or bay": it is 8, or 17 where the round or the buffer is at fault; and a refusal leaves all
 abbrev pub OtherRoundRefused : Type 0
 OtherRoundRefused = (H : List ℕ → Id) (r : Round) (b buffer : List ℕ) (house bay : ℕ)
     → AddressedTo b house bay → ((house ≡ r .house) × (bay ≡ r .bay) → ⊥)
-    → (delivered H r b buffer .outcome ≡ outcome.Refused OtherRound) ⊎ (delivered H r b buffer .outcome ≡ outcome.Refused Argument)
+    → (deliveryNumber H r b buffer ≡ 8) ⊎ (deliveryNumber H r b buffer ≡ 17)
+
+-- and whatever is delivered, the round keeps its graph, its house, its bay and its own number
+abbrev pub RoundStaysItself : Type 0
+RoundStaysItself = (H : List ℕ → Id) → IdRule H → (r : Round) → Typed r → (b buffer : List ℕ)
+    → (delivered H r b buffer .round .graph ≡ r .graph) × (delivered H r b buffer .round .house ≡ r .house)
+    × (delivered H r b buffer .round .bay ≡ r .bay) × (delivered H r b buffer .round .own ≡ r .own)
 
 -- "Checks run in this order: .. then 8 to 16": the rows are tried by ascending number
 abbrev pub rowNumbers : List (Bool × Refusal) → List ℕ
@@ -175,8 +180,8 @@ KnownBeneath = (H : List ℕ → Id) → IdRule H → (file : List ℕ) (house b
 -- theorem 21 over a list: what is decided was proposed in an accepted message
 abbrev pub ValidityOverLists : Type 0
 ValidityOverLists = (H : List ℕ → Id) → IdRule H → (file : List ℕ) (house bay own : ℕ) (r : Round) → Starts file house bay own r
-    → (l : List Call) (a x : ℕ) → Decided x ∈ reports a (run H r l)
-    → (m : List ℕ) × (m ∈ accepted (run H r l)) × ((f : Proposal) × (reading m ≡ OfProposer f) × (f .ballot ≡ x))
+    → (l : List Call) (a : ℕ) (p : Page) → p ∈ pages a (run H r l) → p .state ≡ decidedState
+    → (m : List ℕ) × (m ∈ accepted (run H r l)) × ((f : Proposal) × (reading m ≡ OfProposer f) × (f .ballot ≡ p .least))
 
 -- a written message is the own acceptor's, and one that names a previous message refers to it, as row 12 asks of a message that arrives
 abbrev pub OwnChained : ℕ → List ℕ → Type 0
@@ -206,7 +211,7 @@ ReplySays r m z = (f : AcceptorMessage) × (reading z ≡ OfAcceptor f)
 -- `Typed r` says that r's numbers are those that its types can hold.
 abbrev pub ReplyReadsBack : Type 0
 ReplyReadsBack = (H : List ℕ → Id) → IdRule H → (r : Round) → Typed r → (b buffer : List ℕ) (n : ℕ)
-    → delivered H r b buffer .outcome ≡ outcome.Replied n → ReplySays r (H b) (take n (replied H r b buffer))
+    → deliveryNumber H r b buffer ≡ withReply + n → ReplySays r (H b) (take n (replied H r b buffer))
 
 -- ---- A SHORTER FAULT PAGE: what let row 13, "no proposal in Tran", be struck
 -- a proposal lies beneath m
@@ -255,13 +260,23 @@ SameRowIn H r = (b : List ℕ) (f : AcceptorMessage) → reading b ≡ OfAccepto
 abbrev pub SameAcceptances : Type 0
 SameAcceptances = (H : List ℕ → Id) (r : Round) → Typed r → T (fits r) → SameRowIn H r
 
+-- ---- a round that is 17 in every call on it, whatever else is given or lent
+abbrev pub Is17 : Round → Type 0
+Is17 r = ((H : List ℕ → Id) (b buffer : List ℕ) → deliveryNumber H r b buffer ≡ 17) × ((a : ℕ) → reportedNumber r a ≡ 17)
+
+-- ---- THE OWN NUMBER: "own acceptor number not in the graph" is 17, given to an opening whose file is accepted or handed in with a round. 256 alone
+-- stands for none, so a larger number is like any other that the graph lacks.
+abbrev pub ForeignOwnRefused : Type 0
+ForeignOwnRefused =
+    ((file : List ℕ) (house bay own : ℕ) → answerNumber (answerOf file) ≡ 0 → readingOf file .graph .acceptors ≤ own → own ≢ listening
+    → openingNumber (opened file house bay own .answer) ≡ 17)
+    × ((r : Round) → r .graph .acceptors ≤ r .own → r .own ≢ listening → Is17 r)
+
 -- ---- PLACES IN ONE BYTE: what row 17 says of places (how wide each is in a round's bytes: roundbytes/specs/ByteWidths)
 -- "a reference place of 128 to 255 handed in is still 17": reference i of the held acceptor message at place p, whatever else the round holds and
 -- whatever is asked of it
 abbrev pub WidePlaceRefused : Type 0
-WidePlaceRefused = (r : Round) (p i : ℕ) → p < r .held → T (not (isProposalAt r p)) → maxHeld ≤ getD (referencesAt r p) i 0
-    → ((H : List ℕ → Id) (b buffer : List ℕ) → delivered H r b buffer .outcome ≡ outcome.Refused Argument)
-    × ((a : ℕ) → reported r a ≡ answer.Refused Argument)
+WidePlaceRefused = (r : Round) (p i : ℕ) → p < r .held → T (not (isProposalAt r p)) → maxHeld ≤ getD (referencesAt r p) i 0 → Is17 r
 
 -- r with q as the place of the previous message of place p
 abbrev pub withPrevious : Round → ℕ → ℕ → Round
@@ -307,12 +322,15 @@ abbrev pub SameCaughtOverLists : Type 0
 SameCaughtOverLists = (H : List ℕ → Id) → IdRule H → (file : List ℕ) (house bay own : ℕ) (r : Round) → Starts file house bay own r
     → (l : List Call) → NoCollision H (accepted (run H r l) ++ written (run H r l)) → SameCaughtIn (lastRound H r l)
 
--- "Growers on mixed sites may then rely on one list of caught controllers": two rounds of one house and bay, under whatever plans, hold a message with
--- one id, at place p and at place q. The November text, read in the one, catches in it whom the report catches in the other.
+-- where two rounds hold a message with one id, at place p and at place q, the November text, read in the one, catches in it whom the report catches in
+-- the other
+abbrev pub OneCaughtIn : Round → Round → Type 0
+OneCaughtIn r s = (p q : ℕ) → p < r .held → q < s .held → idAt r p ≡ idAt s q → (a : ℕ) → caughtNovember (tree (tableOf r) p) a ≡ caught (tree (tableOf s) q) a
+
+-- "Growers on mixed sites may then rely on one list of caught controllers": so it is of two rounds of one house and bay, under whatever plans
 abbrev pub OneCaughtList : Type 0
 OneCaughtList = (H : List ℕ → Id) → IdRule H → (fileA fileB : List ℕ) (house bay ownA ownB : ℕ) (rA rB : Round)
     → Starts fileA house bay ownA rA → Starts fileB house bay ownB rB
     → (lA lB : List Call)
     → NoCollision H ((accepted (run H rA lA) ++ accepted (run H rB lB)) ++ (written (run H rA lA) ++ written (run H rB lB)))
-    → (p q : ℕ) → p < lastRound H rA lA .held → q < lastRound H rB lB .held → idAt (lastRound H rA lA) p ≡ idAt (lastRound H rB lB) q
-    → (a : ℕ) → caughtNovember (tree (tableOf (lastRound H rA lA)) p) a ≡ caught (tree (tableOf (lastRound H rB lB)) q) a
+    → OneCaughtIn (lastRound H rA lA) (lastRound H rB lB)

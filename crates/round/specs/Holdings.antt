@@ -21,7 +21,7 @@ module _ (r : Round) where
   abbrev pub graphOf : LearnerGraph
   graphOf = viewOf (r .graph)
 
-  -- whether the round has an acceptor number, and so votes
+  -- whether the round has an acceptor number, and so votes; row 17 lets no number above 256 pass
   abbrev pub isVoting : Bool
   isVoting = ltb (r .own) listening
 

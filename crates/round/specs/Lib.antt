@@ -16,9 +16,13 @@ pub mod Reply
 pub mod Delivery
 -- The report for a learner
 pub mod Report
+-- The number and the values of each answer
+pub mod Answers
 -- Lists of calls: what is accepted, written and reported in one
 pub mod Lists
 -- What the owner asked for, as propositions
 pub mod Demands
 -- What the contract must shut out, as propositions
 pub mod ShutOut
+-- What holds of every round that passes 17, as propositions
+pub mod Passed

@@ -1,4 +1,5 @@
 -- "The lists of demand 3": any number of deliveries and reports, those turned down included, each on the round that the call before it left.
+use mathlib.Core.Bool.{_&&_}
 use mathlib.Core.List.{List, [], _∷_}
 use Prim.Native.Nat.{ℕ}
 use lib.Dec.{eqb}
@@ -6,26 +7,24 @@ use lib.ListN.{take}
 use Rattle.base.specs.Tests.{pick}
 use Rattle.protocol.specs.Ids.{Id}
 use Rattle.round.specs.Round.{Round}
-use Rattle.round.specs.declared.Outcome.{Outcome}
-use Rattle.round.specs.declared.Outcome.the-variants.{Accepted, Replied, Refused}
-use Rattle.round.specs.declared.Report.{Report}
+use Rattle.round.specs.Answers.{hasReply, replySize, isTaken, Page, deliveryNumber, reportedNumber, reportedPage}
 use Rattle.round.specs.Delivery.{delivered, replied}
-use Rattle.round.specs.Report.{reported}
 
 -- "Each delivery has any message bytes and any reply buffer, of any length."
 pub data Call : Type 0 where
   deliver : List ℕ → List ℕ → Call
   report : ℕ → Call
 
--- What is seen of a call: of a delivery its message, the answer and the reply buffer afterwards; of a report its learner and the answer.
+-- What is seen of a call: of a delivery its message, the number answered and the reply buffer afterwards; of a report its learner, the number answered
+-- and the page, which counts where that number is 0.
 pub data Seen : Type 0 where
-  delivery : List ℕ → Outcome → List ℕ → Seen
-  reporting : ℕ → Report → Seen
+  delivery : List ℕ → ℕ → List ℕ → Seen
+  reporting : ℕ → ℕ → Page → Seen
 
 module _ (H : List ℕ → Id) where
   abbrev pub seen : Round → Call → Seen
-  seen r (deliver b buffer) = delivery b (delivered H r b buffer .outcome) (replied H r b buffer)
-  seen r (report a) = reporting a (reported r a)
+  seen r (deliver b buffer) = delivery b (deliveryNumber H r b buffer) (replied H r b buffer)
+  seen r (report a) = reporting a (reportedNumber r a) (reportedPage r a)
 
   -- "Each call gets the round as the call before it returned or left it; a report, or a call turned down, leaves it as it was."
   abbrev pub after : Round → Call → Round
@@ -43,29 +42,19 @@ module _ (H : List ℕ → Id) where
   lastRound r (c ∷ l) = lastRound (after r c) l
 
 -- ---- "A message is accepted if a delivery of it in a list was not turned down,
-abbrev pub acceptedBy : List ℕ → Outcome → List (List ℕ) → List (List ℕ)
-acceptedBy b (Refused e) l = l
-acceptedBy b Accepted l = b ∷ l
-acceptedBy b (Replied n) l = b ∷ l
-
 unfoldable pub accepted : List Seen → List (List ℕ)
 accepted [] = []
-accepted (delivery b o buffer ∷ l) = acceptedBy b o (accepted l)
-accepted (reporting a answer ∷ l) = accepted l
+accepted (delivery b n buffer ∷ l) = pick (isTaken n) (b ∷ accepted l) (accepted l)
+accepted (reporting a n p ∷ l) = accepted l
 
--- ---- and written if it is a reply in a list": the front of the buffer, as long as the answer says. In the order of the list.
-abbrev pub writtenBy : Outcome → List ℕ → List (List ℕ) → List (List ℕ)
-writtenBy (Refused e) buffer l = l
-writtenBy Accepted buffer l = l
-writtenBy (Replied n) buffer l = take n buffer ∷ l
-
+-- ---- and written if it is a reply in a list": the front of the buffer, as long as the number says. In the order of the list.
 unfoldable pub written : List Seen → List (List ℕ)
 written [] = []
-written (delivery b o buffer ∷ l) = writtenBy o buffer (written l)
-written (reporting a answer ∷ l) = written l
+written (delivery b n buffer ∷ l) = pick (hasReply n) (take (replySize n) buffer ∷ written l) (written l)
+written (reporting a n p ∷ l) = written l
 
--- ---- the reports for a learner, "wherever they stand"
-unfoldable pub reports : ℕ → List Seen → List Report
-reports a [] = []
-reports a (delivery b o buffer ∷ l) = reports a l
-reports a (reporting c answer ∷ l) = pick (eqb c a) (answer ∷ reports a l) (reports a l)
+-- ---- the reports for a learner, "wherever they stand": the pages of those that were not turned down
+unfoldable pub pages : ℕ → List Seen → List Page
+pages a [] = []
+pages a (delivery b n buffer ∷ l) = pages a l
+pages a (reporting c n p ∷ l) = pick (eqb c a && eqb n 0) (p ∷ pages a l) (pages a l)

@@ -1,8 +1,6 @@
 -- "A round opens from a graph file (checked first; 17 comes after 7), a house, a bay, and an acceptor number or none (listening only)."
-use mathlib.Core.Bool.{_||_}
 use mathlib.Core.List.{List}
 use Prim.Native.Nat.{ℕ, _*_}
-use lib.Dec.{ltb, leb}
 use lib.ListN.{replicate}
 use Rattle.base.specs.Tests.{pick}
 use Rattle.base.specs.declared.refusal.Refusal.{Refusal}
@@ -16,7 +14,7 @@ use Rattle.message.specs.Layout.{idLen}
 use Rattle.round.specs.Round.{Round}
 use Rattle.round.specs.declared.Opening.{Opening}
 use Rattle.round.specs.declared.Opening.the-variants as opening
-use Rattle.round.specs.Limits.{maxHeld, noPlace, listening}
+use Rattle.round.specs.Limits.{maxHeld, noPlace, ownAllowed}
 
 -- what an opening answers, and the round that it gives; a refused opening gives a round of zeros
 pub record Opened : Type 0 where
@@ -53,7 +51,7 @@ refusedOpening e = record { answer = opening.Refused e; round = zeros }
 -- after the file: an acceptor number that the graph lacks is 17
 abbrev pub openedWith : Reading → ℕ → ℕ → ℕ → Answer → Opened
 openedWith g house bay own Accepted =
-    pick (leb listening own || ltb own (g .graph .acceptors))
+    pick (ownAllowed own (g .graph .acceptors))
     (record { answer = opening.Opened; round = emptyRound (g .graph) house bay own noPlace })
     (refusedOpening Argument)
 openedWith g house bay own (Refused e) = refusedOpening e

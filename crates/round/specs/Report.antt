@@ -16,6 +16,6 @@ told undecided = answer.Undecided
 told (decided x) = answer.Decided x
 told (split x y) = answer.Split x y
 
--- 17 for a learner that the graph lacks, and for a round handed in that no table can be
+-- 17 for a learner that the graph lacks, and for a round handed in that row 17 turns down
 unfoldable pub reported : Round → ℕ → Report
 reported r a = pick (not (fits r) || leb (r .graph .learners) a) (answer.Refused Argument) (told (report (graphOf r) (knownMessages r) a))

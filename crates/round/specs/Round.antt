@@ -1,6 +1,6 @@
 -- One decision for one house and bay: a round, which holds only what was given to it. Whatever follows from that is worked out anew in each call.
--- Every bit pattern is a round; a call answers 17 for one that no table can be. Place p of each array belongs to the p-th held message; what is not in
--- use is not read.
+-- Every bit pattern is a round; a call answers 17 for one that has a count or place outside its table (Handed). Place p of each array belongs to the p-th
+-- held message; what is not in use is not read.
 use mathlib.Core.List.{List}
 use Prim.Native.Nat.{ℕ}
 use Rattle.graph.specs.declared.Graph.{Graph}
@@ -9,7 +9,7 @@ pub record Round : Type 0 where
   pub graph : Graph
   pub house : ℕ
   pub bay : ℕ
-  -- the own acceptor number; 256 and more: listening only
+  -- the own acceptor number; 256: none, listening only
   pub own : ℕ
   -- how many messages are held
   pub held : ℕ
@@ -22,7 +22,7 @@ pub record Round : Type 0 where
   pub signers : List ℕ
   -- the ballot of a proposal
   pub ballots : List ℕ
-  -- the place of an acceptor message's previous message; 255: none
+  -- the place of an acceptor message's previous message; 255: none, as a proposal has
   pub previous : List ℕ
   -- the places that an acceptor message refers to: counts[p] places from 128 * p on
   pub counts : List ℕ

@@ -7,7 +7,7 @@ pub const MAX_HELD: usize = 128;
 // Stands for no place: of a message that names no previous one, and where none was sent.
 pub const NO_PLACE: u8 = 255;
 
-// An acceptor number is one byte; a number from here on stands for none, listening only.
+// Stands for no acceptor number, listening only. A larger number is in no graph.
 pub const LISTENING: u16 = 256;
 
 // What an opening answers.

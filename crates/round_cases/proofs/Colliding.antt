@@ -20,7 +20,7 @@ use Rattle.message.specs.Writer.{acceptorBytes}
 use Rattle.message.specs.Order.{before, ascending}
 use Rattle.protocol.specs.Ids.{Id, sameId, samePrevious}
 use Rattle.protocol.specs.Message.{listed, idOf, signer, previous, references, isProposal, proposed, is1b, is2a, signers, tran, trans, largest, ballot, value, forks, caughtIn, caught}
-use Rattle.protocol.specs.Learners.{con, buriesBy, buriedBy, standsBy, con2aBy, con2asBy, freshBy, backsBy, backersBy, lrnsBy, height, heights, lrnsIn, lrns, overrides, ownVote, sameValue}
+use Rattle.protocol.specs.Learners.{con, buriedBy, con2asBy, freshBy, backersBy, lrnsBy, height, heights, lrnsIn, lrns}
 use Rattle.protocol.specs.WellFormed.{isPrevious, linked, chained, alone, formed1b, formed2a}
 use Rattle.protocol.specs.Table.{at, tabulate, gather, nodeBy, treeIn, tree}
 use Rattle.protocol.specs.November.{prevTran, inPrevTran, unconnected, caughtNovember}
@@ -33,7 +33,7 @@ use Rattle.round.specs.Reply as reply
 use Rattle.round.specs.Delivery.{delivery, processed, hold}
 use Rattle.round.specs.Lists.{Call, deliver, lastRound}
 use Rattle.round.specs.Demands.{IdRule, Starts, SameCaughtIn}
-use Rattle.round.specs.declared.Opening.the-variants.{Opened}
+use Rattle.round.specs.Answers.{openingNumber}
 use Rattle.round_cases.specs.Cases.{four, thirds, G1, proposalFor, buffer, start}
 
 -- ---- the id rule: 32 times one number. It tells the messages below apart but for two: the second reply has the number of the first proposal.
@@ -77,7 +77,7 @@ unfoldable end : Round
 end = lastRound H (start G1 0) calls
 
 computed : T (ltb 8 (end .held)) × T (caughtNovember (tree (tableOf end) 8) 0) × T (not (caught (tree (tableOf end) 8) 0))
-unfolding ofProposal ofVote number H z₁ vote₁ calls end lastRound overrides ownVote sameValue four thirds G1 proposalFor buffer start any all filter below has contains apart be bytes isQuorum isSafe safeWithout common validAt valid condensedAt condensed last readMasks readList readLists readRows readGraph contents graphSaid triangle pairList listOf holdAll holdRows heldOf before ascending sameId samePrevious listed idOf signer previous references isProposal proposed is1b is2a signers tran trans largest ballot valueOf value forks caughtIn caught prevTran inPrevTran unconnected caughtNovember con buriesBy buriedBy standsBy con2aBy con2asBy freshBy backsBy backersBy lrnsBy height heights lrnsIn lrns isPrevious linked chained alone formed1b formed2a at tabulate gather nodeBy treeIn tree lowest placeOf listFits graphFits ownFits refersBack messageFits fits idsFrom lacks unchained proposalRows acceptorRows firstOf delivery processed hold opened reply.chosen reply.insert reply.chosenOf reply.joined reply.replyBytes reply.isSent
+unfolding ofProposal ofVote number H z₁ vote₁ calls end lastRound four thirds G1 proposalFor buffer start any all filter below has contains apart be bytes isQuorum isSafe safeWithout common validAt valid condensedAt condensed last readMasks readList readLists readRows readGraph contents graphSaid triangle pairList listOf holdAll holdRows heldOf before ascending sameId samePrevious listed idOf signer previous references isProposal proposed is1b is2a signers tran trans largest ballot valueOf value forks caughtIn caught prevTran inPrevTran unconnected caughtNovember con buriedBy con2asBy freshBy backersBy lrnsBy height heights lrnsIn lrns isPrevious linked chained alone formed1b formed2a at tabulate gather nodeBy treeIn tree lowest placeOf listFits graphFits ownFits refersBack messageFits fits idsFrom lacks unchained proposalRows acceptorRows firstOf delivery processed hold opened reply.chosen reply.insert reply.chosenOf reply.joined reply.replyBytes reply.isSent
 computed = (tt, tt, tt)
 
 -- ---- the rule gives 32 bytes
@@ -119,13 +119,13 @@ abbrev WithoutPremise : Type 0
 WithoutPremise = (H : List ℕ → Id) → IdRule H → (file : List ℕ) (house bay own : ℕ) (r : Round) → Starts file house bay own r
     → (l : List Call) → SameCaughtIn (lastRound H r l)
 
-opens : opened G1 1 12 0 .answer ≡ Opened
+opens : openingNumber (opened G1 1 12 0 .answer) ≡ 0
 unfolding four thirds G1 any all below has contains apart be isQuorum isSafe safeWithout common validAt valid condensedAt condensed last readMasks readList readLists readRows readGraph contents graphSaid triangle pairList listOf holdAll holdRows heldOf opened
 opens = refl
 
 pub premise-needed : WithoutPremise → ⊥
 unfolding start end
 premise-needed f =
-    let starts : Starts G1 1 12 0 (start G1 0) = record { opens = opens; gives = refl; houseFits = omega arith; bayFits = omega arith; ownFits = omega arith } in
+    let starts : Starts G1 1 12 0 (start G1 0) = record { opens = opens; gives = refl; houseFits = omega arith; bayFits = omega arith } in
     let (inside, november, december) = computed in
     T-not (caught (tree (tableOf end) 8) 0) december (subst T (f H rule G1 1 12 0 (start G1 0) starts calls 8 0 (ltb→lt 8 (end .held) inside)) november)

@@ -2,10 +2,9 @@
 use mathlib.Core.Bool.{Bool}
 use mathlib.Core.List.{List, [], _∷_, _++_}
 use Prim.Native.Nat.{ℕ, _+_}
-use lib.Dec.{eqb}
+use lib.Dec.{T, eqb}
 use lib.ListN.{length, replicate}
-use Rattle.base.specs.Tests.{pick}
-use Rattle.base.specs.Refusals.{numberOf}
+use Rattle.base.specs.Tests.{pick, all}
 use Rattle.base.specs.Ballots.{valueOf}
 use Rattle.digest.specs.Sha256.{sha256}
 use Rattle.message.specs.Writer.{acceptorBytes}
@@ -15,28 +14,11 @@ use Rattle.protocol.specs.Message.{is1b, is2a}
 use Rattle.protocol.specs.Learners.{lrns}
 use Rattle.protocol.specs.Table.{tree}
 use Rattle.round.specs.Round.{Round}
-use Rattle.round.specs.declared.Opening.{Opening}
-use Rattle.round.specs.declared.Opening.the-variants as opening
-use Rattle.round.specs.declared.Outcome.{Outcome}
-use Rattle.round.specs.declared.Outcome.the-variants as outcome
-use Rattle.round.specs.declared.Report.{Report}
-use Rattle.round.specs.declared.Report.the-variants as answer
 use Rattle.round.specs.Limits.{replyLen}
 use Rattle.round.specs.Holdings.{graphOf, tableOf}
 use Rattle.round.specs.Opening.{opened}
 use Rattle.round.specs.Delivery.{Result, delivery}
-use Rattle.round.specs.Report.{reported}
-
--- ---- the papers' numbers for each answer
-abbrev pub openingNumber : Opening → ℕ
-openingNumber opening.Opened = 0
-openingNumber (opening.Refused e) = numberOf e
-
--- 0 accepted with no reply, 256 and its length for a reply, the row's number for a refusal
-abbrev pub outcomeNumber : Outcome → ℕ
-outcomeNumber outcome.Accepted = 0
-outcomeNumber (outcome.Replied n) = 256 + n
-outcomeNumber (outcome.Refused e) = numberOf e
+use Rattle.round.specs.Answers.{openingNumber, withReply, outcomeNumber, undecidedState, decidedState, reportedNumber, reportedPage}
 
 -- ---- the graphs and messages of document 01
 unfoldable pub G0 : List ℕ
@@ -115,18 +97,6 @@ heard2 file = deliver (heard file) z1 .round
 unfoldable pub bit : Bool → ℕ
 bit b = pick b 1 0
 
-unfoldable pub reportCase : Report → ℕ
-reportCase answer.Undecided = 0
-reportCase (answer.Decided x) = 1
-reportCase (answer.Split x y) = 2
-reportCase (answer.Refused e) = numberOf e
-
-unfoldable pub decidedValue : Report → ℕ
-decidedValue (answer.Decided x) = valueOf x
-decidedValue answer.Undecided = 0
-decidedValue (answer.Split x y) = 0
-decidedValue (answer.Refused e) = 0
-
 -- ---- the table: what comes out, and what is expected
 pub record Case : Type 0 where
   pub found : ℕ
@@ -145,18 +115,20 @@ cases =
     ∷ is (openingNumber (opened notValid 1 12 0 .answer)) 6
     ∷ is (openingNumber (opened notCondensed 1 12 0 .answer)) 7
     -- "P gives reply z1, 43 bytes, a 1b."
-    ∷ is (outcomeNumber (sample1 .outcome)) (256 + 43)
+    ∷ is (outcomeNumber (sample1 .outcome)) (withReply + 43)
     ∷ is (length z1) 43
     ∷ is (bit (is1b (tree (tableOf (sample1 .round)) 1))) 1
     -- "z1 gives z2, 75 bytes, a 2a for learner 0."
-    ∷ is (outcomeNumber (sample2 .outcome)) (256 + 75)
+    ∷ is (outcomeNumber (sample2 .outcome)) (withReply + 75)
     ∷ is (length z2) 75
     ∷ is (bit (is2a (tree (tableOf (sample2 .round)) 2))) 1
     ∷ is (bit (lrns (graphOf (sample2 .round)) (tree (tableOf (sample2 .round)) 2) 0)) 1
     -- "The report after P and z1 is undecided; after z2 it is decided, value 70."
-    ∷ is (reportCase (reported (sample2 .round) 0)) 0
-    ∷ is (reportCase (reported (sample3 .round) 0)) 1
-    ∷ is (decidedValue (reported (sample3 .round) 0)) 70
+    ∷ is (reportedNumber (sample2 .round) 0) 0
+    ∷ is (reportedPage (sample2 .round) 0 .state) undecidedState
+    ∷ is (reportedNumber (sample3 .round) 0) 0
+    ∷ is (reportedPage (sample3 .round) 0 .state) decidedState
+    ∷ is (valueOf (reportedPage (sample3 .round) 0 .least)) 70
     -- "A proposal with round number 3 then gives no reply. z1 again is 10."
     ∷ is (outcomeNumber (deliver (sample3 .round) (proposalFor 1 3) .outcome)) 0
     ∷ is (outcomeNumber (deliver (sample3 .round) z1 .outcome)) 10
@@ -172,3 +144,7 @@ cases =
 
 unfoldable pub asExpected : Case → Bool
 asExpected c = eqb (c .found) (c .expected)
+
+-- Every case comes out as expected; proofs/Cases proves it under the same name.
+abbrev pub CasesHold : Type 0
+CasesHold = T (all asExpected cases)

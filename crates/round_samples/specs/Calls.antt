@@ -4,13 +4,9 @@ use Prim.Native.Nat.{ℕ, zero, suc, _+_, _%_, _^_}
 use lib.Dec.{eqb, ltb}
 use lib.ListN.{length, getD, replicate}
 use Rattle.base.specs.Tests.{pick}
-use Rattle.base.specs.Refusals.{numberOf}
-use Rattle.round.specs.declared.Opening.{Opening}
-use Rattle.round.specs.declared.Opening.the-variants as opening
 use Rattle.round.specs.declared.Outcome.{Outcome}
-use Rattle.round.specs.declared.Outcome.the-variants as outcome
 use Rattle.round.specs.declared.Report.{Report}
-use Rattle.round.specs.declared.Report.the-variants as answer
+use Rattle.round.specs.Answers.{outcomeNumber, reportNumber, pageOf}
 use Rattle.round_samples.specs.declared.calls.Verdict.{Verdict}
 
 -- what every byte of a reply buffer is before a delivery
@@ -24,23 +20,13 @@ blanks n = replicate n blank
 unfoldable pub zeros : ℕ → List ℕ
 zeros n = replicate n 0
 
--- 0 for a round that opens, or the number that turns it down
-abbrev pub openingCode : Opening → ℕ
-openingCode opening.Opened = 0
-openingCode (opening.Refused e) = numberOf e
+-- the number of a delivery's answer, in 64 bits
+abbrev pub outcomeIn64 : Outcome → ℕ
+outcomeIn64 o = outcomeNumber o % 2 ^ 64
 
--- 0 for a message accepted with no reply, 1,000 and the reply's length, or the number that turns it down
-abbrev pub outcomeCode : Outcome → ℕ
-outcomeCode outcome.Accepted = 0
-outcomeCode (outcome.Replied n) = (1000 + n) % 2 ^ 64
-outcomeCode (outcome.Refused e) = numberOf e
-
--- 0 undecided, 100 decided, 200 split, or the number that turns it down; and its ballots, 0 where it has none
+-- a report's number and its page
 abbrev pub verdictOf : Report → Verdict
-verdictOf answer.Undecided = record { code = 0; least = 0; other = 0 }
-verdictOf (answer.Decided x) = record { code = 100; least = x; other = 0 }
-verdictOf (answer.Split x y) = record { code = 200; least = x; other = y }
-verdictOf (answer.Refused e) = record { code = numberOf e; least = 0; other = 0 }
+verdictOf x = record { number = reportNumber x; state = pageOf x .state; least = pageOf x .least; other = pageOf x .other }
 
 -- byte i of a reply buffer after a reply: the reply's own, and behind it what was there
 abbrev pub leftBy : List ℕ → ℕ → ℕ

@@ -11,9 +11,10 @@ ghost use mathlib.Core.Path.{_≡_};
 ghost use lib.ListN.{length};
 ghost use Rattle.base.specs.Refusals.{numberOf};
 ghost use Rattle.base.specs.declared.refusal.Refusal.the-variants.{Argument};
+ghost use Rattle.round.specs.Answers.{openingNumber};
 ghost use Rattle.roundbytes.specs.Layout.{roundLen};
 ghost use Rattle.engine.specs.Calls.{openAnswer, openTo, deliverAnswer, deliverTo, replyTo, reportAnswer};
-ghost use Rattle.round_samples.specs.Calls.{blanks, zeros, openingCode, outcomeCode, verdictOf, leftBy, differingIn};
+ghost use Rattle.round_samples.specs.Calls.{blanks, zeros, outcomeIn64, verdictOf, leftBy, differingIn};
 
 // What every byte of a reply buffer is before a delivery.
 const BLANK: u8 = 9;
@@ -23,16 +24,17 @@ pub struct Round {
     pub bytes: [u8; ROUND_LEN],
 }
 
-// What a delivery gave: 0 for a message accepted with no reply, 1,000 and the reply's length, or the number that turns it down.
+// What a delivery gave: 0 for a message accepted with no reply, 256 and the reply's length, or the number that turns it down.
 pub struct Step {
-    pub code: u64,
+    pub number: u64,
     pub round: Round,
     pub reply: [u8; 4139],
 }
 
-// What a report gave: 0 undecided, 100 decided, 200 split, or the number that turns it down; and its ballots, 0 where it has none.
+// What a report gave: 0 or the number that turns it down, and its page: 0 undecided, 1 decided, 2 split, and its ballots, 0 where it has none.
 pub struct Verdict {
-    pub code: u64,
+    pub number: u64,
+    pub state: u64,
     pub least: u64,
     pub other: u64,
 }
@@ -58,20 +60,20 @@ fn fresh() -> [u8; ROUND_LEN]
     [0u8; ROUND_LEN]
 }
 
-// The code of a delivery's answer.
-fn outcome_code(outcome: Outcome) -> u64
-    ensures { λ r. ⌜ r ≡ outcomeCode outcome ⌝ }
+// The number of a delivery's answer.
+fn outcome_number(outcome: Outcome) -> u64
+    ensures { λ r. ⌜ r ≡ outcomeIn64 outcome ⌝ }
 {
     match outcome {
         Outcome::Accepted => 0,
-        Outcome::Replied(n) => std::num::wrapping_add_u64(1000, n as u64),
+        Outcome::Replied(n) => std::num::wrapping_add_u64(256, n as u64),
         Outcome::Refused(r) => number(r) as u64,
     }
 }
 
 // Delivers bytes to a round.
 pub fn given(round: Round, bytes: &[u8]) -> Step
-    ensures { λ r. ⌜ (r .code ≡ outcomeCode (deliverAnswer (round .bytes) (now (bytes .entry)) (blanks 4139)))
+    ensures { λ r. ⌜ (r .number ≡ outcomeIn64 (deliverAnswer (round .bytes) (now (bytes .entry)) (blanks 4139)))
         × ((r .round .bytes ≡ deliverTo (round .bytes) (now (bytes .entry)) (blanks 4139))
         × (r .reply ≡ replyTo (round .bytes) (now (bytes .entry)) (blanks 4139))) ⌝ }
 {
@@ -79,7 +81,7 @@ pub fn given(round: Round, bytes: &[u8]) -> Step
     let mut next = round.bytes;
     let outcome = deliver(&mut next, bytes, &mut reply);
     Step {
-        code: outcome_code(outcome),
+        number: outcome_number(outcome),
         round: Round { bytes: next },
         reply,
     }
@@ -103,7 +105,7 @@ pub fn cramped(round: Round, bytes: &[u8]) -> u64
     if differing(&reply, b"") != 0 {
         return 9999;
     }
-    outcome_code(outcome)
+    outcome_number(outcome)
 }
 
 // What byte i of a reply buffer is after this reply: the reply's own, and behind it what was there.
@@ -132,7 +134,7 @@ pub fn differing(buffer: &[u8], reply: &[u8]) -> u64
 }
 
 // The round for house 1 and bay 12.
-pub fn start(file: &[u8], own: u16) -> Round
+pub fn start(file: &[u8], own: u32) -> Round
     ensures { λ r. ⌜ r .bytes ≡ openTo (now (file .entry)) 1 12 own (zeros roundLen) ⌝ }
 {
     let mut bytes = fresh();
@@ -141,8 +143,8 @@ pub fn start(file: &[u8], own: u16) -> Round
 }
 
 // 0 for a round that opens, or the number that turns it down.
-pub fn opening(file: &[u8], own: u16) -> u64
-    ensures { λ r. ⌜ r ≡ openingCode (openAnswer (now (file .entry)) 1 12 own (zeros roundLen)) ⌝ }
+pub fn opening(file: &[u8], own: u32) -> u64
+    ensures { λ r. ⌜ r ≡ openingNumber (openAnswer (now (file .entry)) 1 12 own (zeros roundLen)) ⌝ }
 {
     let mut bytes = fresh();
     match open(file, 1, 12, own, &mut bytes) {
@@ -158,22 +160,26 @@ pub fn told(round: Round, learner: u8) -> Verdict
     let bytes = round.bytes;
     match report(&bytes, learner) {
         Report::Undecided => Verdict {
-            code: 0,
+            number: 0,
+            state: 0,
             least: 0,
             other: 0,
         },
         Report::Decided(ballot) => Verdict {
-            code: 100,
+            number: 0,
+            state: 1,
             least: ballot,
             other: 0,
         },
         Report::Split(ballot, other) => Verdict {
-            code: 200,
+            number: 0,
+            state: 2,
             least: ballot,
             other: other,
         },
         Report::Refused(r) => Verdict {
-            code: number(r) as u64,
+            number: number(r) as u64,
+            state: 0,
             least: 0,
             other: 0,
         },

@@ -34,7 +34,17 @@ mod calls;
 mod papers;
 
 // An acceptor number that stands for none: the round only listens.
-const LISTENING: u16 = 256;
+const LISTENING: u32 = 256;
+
+// What a delivery with a reply answers, less the reply's length.
+const REPLY: u64 = 256;
+
+// The states of a report's page.
+const UNDECIDED: u64 = 0;
+
+const DECIDED: u64 = 1;
+
+const SPLIT: u64 = 2;
 
 // The ballots of round number 5 with value 70, which is P's, and of 6 with 71.
 const B5_70: u64 = 0x0000_0005_0000_0046;
@@ -72,11 +82,11 @@ fn tried(t: Tally, found: u64, expected: u64) -> Tally {
     }
 }
 
-// A delivery that gives this code, and a reply buffer that has these bytes at its front and behind them what was there.
+// A delivery that gives this number, and a reply buffer that has these bytes at its front and behind them what was there.
 fn replied(t0: Tally, round: Round, bytes: &[u8], expected: u64, reply: &[u8]) -> Tally {
     let s = given(round, bytes);
     let buffer = s.reply;
-    let t = tried(t0, s.code, expected);
+    let t = tried(t0, s.number, expected);
     tried(t, differing(&buffer, reply), 0)
 }
 
@@ -85,10 +95,17 @@ fn no_reply(t0: Tally, round: Round, bytes: &[u8], expected: u64) -> Tally {
     replied(t0, round, bytes, expected, b"")
 }
 
-// A report: 0 undecided, 100 decided, 200 split, or a row's number; and its ballots.
-fn reported(t0: Tally, round: Round, learner: u8, code: u64, least: u64, other: u64) -> Tally {
+// A report that is turned down by this number.
+fn not_reported(t: Tally, round: Round, learner: u8, expected: u64) -> Tally {
     let v = told(round, learner);
-    let mut t = tried(t0, v.code, code);
+    tried(t, v.number, expected)
+}
+
+// A report that is not turned down: its page's state and ballots.
+fn reported(t0: Tally, round: Round, learner: u8, state: u64, least: u64, other: u64) -> Tally {
+    let v = told(round, learner);
+    let mut t = tried(t0, v.number, 0);
+    t = tried(t, v.state, state);
     t = tried(t, v.least, least);
     tried(t, v.other, other)
 }
@@ -96,13 +113,13 @@ fn reported(t0: Tally, round: Round, learner: u8, code: u64, least: u64, other: 
 // The sample round under G0: P gives z1, 43 bytes, and z1 gives z2, 75 bytes.
 fn samples(t0: Tally) -> Tally {
     let r0 = start(&g0(), 0);
-    let mut t = replied(t0, r0, &p(), 1043, &z1());
+    let mut t = replied(t0, r0, &p(), REPLY + 43, &z1());
     let r1 = after(r0, &p());
-    t = reported(t, r1, 0, 0, 0, 0);
+    t = reported(t, r1, 0, UNDECIDED, 0, 0);
     // z1 awaits its return: no arriving message may refer to it.
     t = no_reply(t, r1, &z2(), 11);
-    t = replied(t, r1, &z1(), 1075, &z2());
-    reported(t, after(r1, &z1()), 0, 0, 0, 0)
+    t = replied(t, r1, &z1(), REPLY + 75, &z2());
+    reported(t, after(r1, &z1()), 0, UNDECIDED, 0, 0)
 }
 
 // The acceptor of G0 after P and z1; z2 awaits its return.
@@ -113,10 +130,10 @@ fn after_z1() -> Round {
 // The sample round goes on: z2 decides.
 fn decision(t0: Tally) -> Tally {
     let r3 = after(after_z1(), &z2());
-    let mut t = reported(t0, r3, 0, 100, B5_70, 0);
+    let mut t = reported(t0, r3, 0, DECIDED, B5_70, 0);
     // A lower round number is accepted, with no reply.
     t = no_reply(t, r3, &proposal(3, 70), 0);
-    t = reported(t, after(r3, &proposal(3, 70)), 0, 100, B5_70, 0);
+    t = reported(t, after(r3, &proposal(3, 70)), 0, DECIDED, B5_70, 0);
     no_reply(t, r3, &z1(), 10)
 }
 
@@ -129,15 +146,15 @@ fn joined(value: u8) -> [u8; 107] {
 // Round number 6 with this value, for an acceptor that voted for P by z2, which is not back yet. `expected` is what the return of z2, and
 // then that of the 1b on the proposal, give.
 fn outbid(t0: Tally, r: Round, value: u8, expected: u64) -> Tally {
-    let mut t = replied(t0, r, &proposal(6, value), 1107, &joined(value));
+    let mut t = replied(t0, r, &proposal(6, value), REPLY + 107, &joined(value));
     // The 1b refers to z2.
     let a = after(r, &proposal(6, value));
     t = no_reply(t, a, &joined(value), 11);
     let b = given(a, &z2());
-    t = tried(t, b.code, expected);
+    t = tried(t, b.number, expected);
     let c = given(b.round, &joined(value));
-    t = tried(t, c.code, expected);
-    reported(t, c.round, 0, 100, B5_70, 0)
+    t = tried(t, c.number, expected);
+    reported(t, c.round, 0, DECIDED, B5_70, 0)
 }
 
 // An acceptor that voted for value 70 does not vote for 71 in a higher ballot, but does for 70 again. A proposal that it had no reply to is
@@ -145,7 +162,7 @@ fn outbid(t0: Tally, r: Round, value: u8, expected: u64) -> Tally {
 fn bound(t0: Tally) -> Tally {
     let r = after(after_z1(), &proposal(3, 70));
     let t = outbid(t0, r, 71, 0);
-    outbid(t, r, 70, 1107)
+    outbid(t, r, 70, REPLY + 107)
 }
 
 // The round after a proposal, acceptor 0's 1b on it, which names no previous message, and the 2a behind that 1b.
@@ -163,15 +180,15 @@ fn splits(t0: Tally) -> Tally {
     let r = start(&g0(), LISTENING);
     let low = voted(r, 5, 70);
     let both = voted(low, 6, 70);
-    let mut t = reported(t0, both, 0, 100, B5_70, 0);
-    t = reported(t, voted(voted(r, 6, 70), 5, 70), 0, 100, B5_70, 0);
-    t = reported(t, voted(low, 6, 71), 0, 200, B5_70, B6_71);
-    t = reported(t, voted(voted(r, 6, 71), 5, 70), 0, 200, B5_70, B6_71);
-    reported(t, voted(both, 6, 71), 0, 200, B5_70, B6_71)
+    let mut t = reported(t0, both, 0, DECIDED, B5_70, 0);
+    t = reported(t, voted(voted(r, 6, 70), 5, 70), 0, DECIDED, B5_70, 0);
+    t = reported(t, voted(low, 6, 71), 0, SPLIT, B5_70, B6_71);
+    t = reported(t, voted(voted(r, 6, 71), 5, 70), 0, SPLIT, B5_70, B6_71);
+    reported(t, voted(both, 6, 71), 0, SPLIT, B5_70, B6_71)
 }
 
 // A round under G1 that heard P.
-fn heard_p(own: u16) -> Round {
+fn heard_p(own: u32) -> Round {
     after(start(&g1(), own), &p())
 }
 
@@ -182,7 +199,7 @@ fn heard(round: Round, signer: u8) -> Round {
 
 // Under G1, an acceptor that heard P and the 1bs of itself and of two others. The last of them gives it a quorum.
 fn vote_of(own: u8, second: u8, third: u8) -> Step {
-    let one = heard(heard_p(own as u16), own);
+    let one = heard(heard_p(own as u32), own);
     given(heard(one, second), &on_p(third))
 }
 
@@ -200,9 +217,9 @@ fn after_vote(round: Round, v: Step) -> Round {
 }
 
 // The same report for both learners of G1.
-fn agreed(t0: Tally, round: Round, code: u64, least: u64) -> Tally {
-    let t = reported(t0, round, 0, code, least, 0);
-    reported(t, round, 1, code, least, 0)
+fn agreed(t0: Tally, round: Round, state: u64, least: u64) -> Tally {
+    let t = reported(t0, round, 0, state, least, 0);
+    reported(t, round, 1, state, least, 0)
 }
 
 // A decision under G1: three 1bs let an acceptor vote, and three 2as decide for both learners; so do four, which are no listed mask.
@@ -211,18 +228,18 @@ fn quorums(t0: Tally) -> Tally {
     let v1 = vote_of(1, 0, 2);
     let v2 = vote_of(2, 0, 1);
     let v3 = vote_of(3, 0, 1);
-    let mut t = tried(t0, v0.code, 1139);
-    t = tried(t, v1.code, 1139);
-    t = tried(t, v2.code, 1139);
-    t = tried(t, v3.code, 1139);
+    let mut t = tried(t0, v0.number, REPLY + 139);
+    t = tried(t, v1.number, REPLY + 139);
+    t = tried(t, v2.number, REPLY + 139);
+    t = tried(t, v3.number, REPLY + 139);
     let more = given(v0.round, &on_p(3));
-    t = tried(t, more.code, 1107);
+    t = tried(t, more.number, REPLY + 107);
     let ones = heard(heard(heard(heard(heard_p(LISTENING), 0), 1), 2), 3);
     let two = after_vote(after_vote(ones, v0), v1);
-    t = agreed(t, two, 0, 0);
+    t = agreed(t, two, UNDECIDED, 0);
     let three = after_vote(two, v2);
-    t = agreed(t, three, 100, B5_70);
-    agreed(t, after_vote(three, v3), 100, B5_70)
+    t = agreed(t, three, DECIDED, B5_70);
+    agreed(t, after_vote(three, v3), DECIDED, B5_70)
 }
 
 // A 2a that awaits its return does not count in a report. With those of two others known, the return of the own one decides.
@@ -230,8 +247,8 @@ fn waiting(t0: Tally) -> Tally {
     let own = vote_of(0, 1, 2);
     let one = after_vote(own.round, vote_of(1, 0, 2));
     let two = after_vote(one, vote_of(2, 0, 1));
-    let t = agreed(t0, two, 0, 0);
-    agreed(t, after_vote(two, own), 100, B5_70)
+    let t = agreed(t0, two, UNDECIDED, 0);
+    agreed(t, after_vote(two, own), DECIDED, B5_70)
 }
 
 // Rows 1 to 4: what a message says by itself.
@@ -250,7 +267,7 @@ fn known(t0: Tally) -> Tally {
     t = no_reply(t, r, &p_with(7, 13), 8);
     t = no_reply(t, after(r, &p()), &p(), 10);
     // A call turned down leaves the round as it was: P still gives z1.
-    replied(t, after(r, &p_with(5, 4)), &p(), 1043, &z1())
+    replied(t, after(r, &p_with(5, 4)), &p(), REPLY + 43, &z1())
 }
 
 // Rows 9 and 11: acceptor messages on P, before P. A signer that is not in the graph comes first.
@@ -292,7 +309,7 @@ fn fill(t0: Tally, r0: Round, n: u8) -> Filled {
     let mut k: u8 = 0;
     while k < n {
         let s = given(r, &proposal(4, k));
-        t = tried(t, s.code, 0);
+        t = tried(t, s.number, 0);
         r = s.round;
         k += 1;
     }
@@ -315,7 +332,7 @@ fn full_voting(t0: Tally) -> Tally {
     let r = f.round;
     let mut t = no_reply(f.tally, r, &proposal(4, 200), 16);
     t = no_reply(t, r, &p(), 10);
-    t = replied(t, r, &z1(), 1075, &z2());
+    t = replied(t, r, &z1(), REPLY + 75, &z2());
     no_reply(t, after(r, &z1()), &z2(), 16)
 }
 
@@ -342,10 +359,12 @@ fn openings(t0: Tally) -> Tally {
     )
 }
 
-// Row 17: a learner and own acceptor numbers that the graph lacks.
+// Row 17: a learner and own acceptor numbers that the graph lacks. 256 alone stands for listening, and 65,536 is not 0.
 fn learners(t0: Tally) -> Tally {
-    let mut t = reported(t0, start(&g0(), 0), 1, 17, 0, 0);
+    let mut t = not_reported(t0, start(&g0(), 0), 1, 17);
     t = tried(t, opening(&g0(), 1), 17);
+    t = tried(t, opening(&g0(), 257), 17);
+    t = tried(t, opening(&g0(), 65536), 17);
     t = tried(t, opening(&g1(), 3), 0);
     tried(t, opening(&g1(), 4), 17)
 }
@@ -363,7 +382,7 @@ fn buffers(t0: Tally) -> Tally {
 // A round handed in that the calls must turn down.
 fn unfit(t0: Tally, round: Round) -> Tally {
     let t = no_reply(t0, round, &proposal(4, 70), 17);
-    reported(t, round, 0, 17, 0, 0)
+    not_reported(t, round, 0, 17)
 }
 
 // Row 17: rounds handed in, with P at place 0 and z1 at place 1.
@@ -384,8 +403,12 @@ fn handed(t0: Tally) -> Tally {
     let mut empty = r;
     empty.bytes[COUNTS_AT + 1] = 0;
     t = unfit(t, empty);
-    // An own acceptor number that the graph lacks.
+    // Own acceptor numbers that the graph lacks: 1, and 257, which does not listen.
     let mut own = r;
     own.bytes[OWN_AT + 1] = 1;
-    unfit(t, own)
+    t = unfit(t, own);
+    let mut larger = r;
+    larger.bytes[OWN_AT] = 1;
+    larger.bytes[OWN_AT + 1] = 1;
+    unfit(t, larger)
 }

@@ -11,7 +11,8 @@ use Rattle.base.specs.Bytes.{be, bytes, part, putAt}
 use Rattle.base.proofs.Bytes.{bytes-length, be-at, be-bytes}
 use Rattle.base.proofs.Cuts.{part-put-front, length-put, drop-behind, put-one, cut, start, into, oneInto, cut-put, cut-set, getD-part, part-part}
 use Rattle.round.specs.Round.{Round}
-use Rattle.roundbytes.specs.Layout.{numbers, graphIn, roundIn, roundLen, Kept, houseAt, bayAt, ownAt, heldAt, lastAt, ballotsAt, masksAt}
+use Rattle.roundbytes.specs.Layout.{numbers, graphIn, roundIn, roundLen, houseAt, bayAt, ownAt, heldAt, lastAt, ballotsAt, masksAt}
+use Rattle.roundbytes.specs.Inside.Keeping.{Kept}
 use Rattle.roundbytes.proofs.Typing.{numbers-length}
 use Rattle.graph.specs.Limits.{lists, maxMasks}
 use Rattle.round.specs.Limits.{maxHeld}

@@ -61,9 +61,9 @@ words-numbers w (suc n) s at o h =
     words-snoc w (numbers w n s at) (be w s (at + w * n)) ∙ ap₂ _++_ (words-numbers w n s at o (omega arith)) (bytes-be w s (at + w * n) o (omega arith))
     ∙ sym (ap (λ (m : ℕ). part m s at) k ∙ part-add (w * n) w s at)
 
-pub bytes-written-back : BytesWrittenBack
+pub bytesWrittenBack : BytesWrittenBack
 unfolding roundIn
-bytes-written-back s o h =
+bytesWrittenBack s o h =
     let b₂ : (at : ℕ) → at + 2 ≤ length s → bytes 2 (be 2 s at) ≡ part 2 s at = λ at k. bytes-be 2 s at o k in
     let g₁ = grow 0 2 lists s (getD s 0 0 ∷ getD s 1 0 ∷ []) (part lists s 2) (two s 0 (omega arith)) refl in
     let g = grow 0 masksAt (4 * (maxMasks * lists)) s ((getD s 0 0 ∷ getD s 1 0 ∷ []) ++ part lists s 2) (words 4 (numbers 4 (maxMasks * lists) s masksAt)) g₁ (words-numbers 4 (maxMasks * lists) s masksAt o (omega arith)) in
@@ -330,5 +330,5 @@ module _ (r : Round) (t : List ℕ) (h : Laid r) where
         recent = recent i;
       }
 
-pub round-reads-back : RoundReadsBack
-round-reads-back r t h = back r t h
+pub roundReadsBack : RoundReadsBack
+roundReadsBack r t h = back r t h

@@ -1,15 +1,14 @@
 -- A round read in bytes is as its types have it.
 use mathlib.Core.Path.{_≡_, _∙_}
 use mathlib.Core.List.{List, [], _∷_}
-use Prim.Native.Nat.{ℕ, zero, suc, _+_, _*_, _^_, _≤_, _<_}
+use Prim.Native.Nat.{ℕ, zero, suc, _+_, _*_, _^_, _<_}
 use native.Mathlib.Nat.{pow-suc}
 use native.Mathlib.Omega.{arith}
 use lib.ListN.{length, drop, length-append}
 use Rattle.base.specs.Bytes.{be, Octets}
 use Rattle.base.proofs.Bytes.{part-length}
-use Rattle.round.specs.Demands.{Typed}
 use Rattle.round.proofs.Parts.{bytes-take, bytes-drop}
-use Rattle.roundbytes.specs.Layout.{numbers, roundLen, roundIn, houseAt, bayAt, idsAt, kindsAt, signersAt, ballotsAt, previousAt, countsAt, referencesAt, knownAt, recentAt}
+use Rattle.roundbytes.specs.Layout.{numbers, roundIn, houseAt, bayAt, idsAt, kindsAt, signersAt, ballotsAt, previousAt, countsAt, referencesAt, knownAt, recentAt, BytesAreTyped}
 use Rattle.round.specs.Limits.{maxHeld}
 use Rattle.message.specs.Layout.{idLen}
 
@@ -24,9 +23,9 @@ unfolding numbers
 numbers-length w zero s at = omega arith
 numbers-length w (suc n) s at = length-append (numbers w n s at) (be w s (at + w * n) ∷ []) ∙ omega (arith, numbers-length w n s at)
 
-pub read-typed : (b : List ℕ) → Octets b → roundLen ≤ length b → Typed (roundIn b)
+pub bytesAreTyped : BytesAreTyped
 unfolding roundIn
-read-typed b o h =
+bytesAreTyped b o h =
     record {
       houseFits = be-below 2 b houseAt o;
       bayFits = be-below 2 b bayAt o;

@@ -3,13 +3,14 @@
 use mathlib.Core.List.{List, [], _∷_, _++_}
 use mathlib.Core.Path.{_≡_}
 use Prim.Native.Nat.{ℕ, zero, suc, _+_, _*_, _^_, _≤_, _<_}
-use lib.ListN.{length, getD, take, drop}
+use lib.ListN.{length, getD, take}
 use Rattle.base.specs.Bytes.{be, bytes, part, Octets}
 use Rattle.graph.specs.declared.Graph.{Graph}
 use Rattle.graph.specs.Limits.{lists, maxMasks}
 use Rattle.message.specs.Layout.{idLen}
 use Rattle.round.specs.Round.{Round}
 use Rattle.round.specs.Limits.{maxHeld}
+use Rattle.round.specs.Demands.{Typed}
 
 -- ---- where each field stands. The two bytes in front are the graph's acceptors and learners.
 abbrev pub listCountsAt : ℕ
@@ -115,10 +116,6 @@ roundIn b =
       recent = part maxHeld b recentAt;
     }
 
--- ---- what stands behind a round's own bytes is as it was
-abbrev pub Kept : List ℕ → List ℕ → Type 0
-Kept before after = (length after ≡ length before) × (drop roundLen after ≡ drop roundLen before)
-
 -- ---- what the types of a round's fields give it: the sizes of its arrays,
 pub record Sized (r : Round) : Type 0 where
   pub listCounts : length (r .graph .counts) ≡ lists
@@ -142,7 +139,7 @@ pub record Laid (r : Round) : Type 0 where
   pub ownFits : r .own < 256 ^ 2
   pub ballotFits : (i : ℕ) → getD (r .ballots) i 0 < 256 ^ 8
 
--- ---- what holds of the layout; proofs/RoundBytes proves each, as `round-reads-back` and `bytes-written-back`. What stands behind a round's own bytes does not matter.
+-- ---- what holds of the layout; proofs/RoundBytes proves the first two. What stands behind a round's own bytes does not matter.
 -- a round that was written is read back
 abbrev pub RoundReadsBack : Type 0
 RoundReadsBack = (r : Round) (behind : List ℕ) → Laid r → roundIn (roundBytes r ++ behind) ≡ r
@@ -150,3 +147,8 @@ RoundReadsBack = (r : Round) (behind : List ℕ) → Laid r → roundIn (roundBy
 -- a round that was read is written as the bytes that it was read from
 abbrev pub BytesWrittenBack : Type 0
 BytesWrittenBack = (b : List ℕ) → Octets b → roundLen ≤ length b → roundBytes (roundIn b) ≡ take roundLen b
+
+-- every string of bytes that is long enough is a round whose numbers are those that its types can hold: what is promised of such rounds holds of bytes.
+-- proofs/Typing proves it.
+abbrev pub BytesAreTyped : Type 0
+BytesAreTyped = (b : List ℕ) → Octets b → roundLen ≤ length b → Typed (roundIn b)

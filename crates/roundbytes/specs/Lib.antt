@@ -4,3 +4,5 @@ pub mod Layout
 pub mod ByteWidths
 -- A buffer after an opening
 pub mod Opening
+-- What only functions inside say to each other: no promise leans on it
+pub mod Inside

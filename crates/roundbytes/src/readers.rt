@@ -52,7 +52,7 @@ pub fn bay_of(s: &[u8]) -> u16
     read16(s, BAY_AT) as u16
 }
 
-// Its acceptor number; LISTENING and more stand for none.
+// Its acceptor number, or LISTENING for none.
 pub fn own_of(s: &[u8]) -> u16
     requires { ⌜ roundLen ≤ length (now s) ⌝ }
     ensures { λ r. ⌜ r ≡ roundIn (now (s .entry)) .own ⌝ }

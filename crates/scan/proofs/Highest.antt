@@ -6,7 +6,7 @@ use native.Mathlib.Numerals.{add-one}
 use native.Mathlib.Omega.{arith}
 use lib.ListN.{length, getD, take}
 use lib.Seq.{take-suc}
-use Rattle.scan.specs.Arrays.{highest}
+use Rattle.scan.specs.Inside.Arrays.{highest}
 
 highest-snoc : (tops l : List ℕ) (x : ℕ) → highest tops (l ++ (x ∷ [])) ≡ max (getD tops x 0) (highest tops l)
 unfolding highest

@@ -15,12 +15,12 @@ use Rattle.round.specs.Limits.{maxHeld, noPlace}
 use Rattle.round.specs.Round.{Round}
 use Rattle.roundbytes.specs.Layout.{idsAt, roundLen, roundIn}
 use Rattle.roundbytes.proofs.Fields.{id-at}
-use Rattle.places.specs.PlaceSets.{inSet}
+use Rattle.places.specs.Inside.PlaceSets.{inSet}
 use Rattle.places.proofs.Walks.{Passed}
 use Rattle.places.proofs.Loops.{each-more}
-use Rattle.notes.specs.Layout.{nameSlots, WordNotes, ByteNotes}
-use Rattle.notes.specs.Writing.{withIds, withNames, withName}
-use Rattle.scan.specs.Arrays.{Lowest, Named, idKey, IdsIndexed, NamedMore, NamedAll}
+use Rattle.notes.specs.Inside.Layout.{nameSlots, WordNotes, ByteNotes}
+use Rattle.notes.specs.Inside.Writing.{withIds, withNames, withName}
+use Rattle.scan.specs.Inside.Arrays.{Lowest, Named, idKey, IdsIndexed, NamedMore, NamedAll}
 
 -- the part of the round's bytes that the code lends for the id of a place
 pub lent : (s : List ℕ) (i : ℕ) → i < maxHeld → roundLen ≤ length s

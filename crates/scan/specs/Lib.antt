@@ -1,2 +1,2 @@
--- What is asked of each place, and the names of the places
-pub mod Arrays
+-- What only functions inside say to each other: no promise leans on it
+pub mod Inside

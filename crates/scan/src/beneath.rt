@@ -16,9 +16,9 @@ ghost use Prim.Native.Nat.{ℕ, _≤_, _<_};
 ghost use lib.ListN.{length, getD};
 ghost use Rattle.base.specs.Tests.{any, below};
 ghost use Rattle.roundbytes.specs.Layout.{roundLen, roundIn};
-ghost use Rattle.notes.specs.Layout.{wordsLen, wordNotes, byteNotes};
-ghost use Rattle.notes.specs.Asking.{Asked, Covering};
-ghost use Rattle.scan.specs.Arrays.{Beneath, isCrowding};
+ghost use Rattle.notes.specs.Inside.Layout.{wordsLen, wordNotes, byteNotes};
+ghost use Rattle.notes.specs.Inside.Asking.{Asked, Covering};
+ghost use Rattle.scan.specs.Inside.Arrays.{Beneath, isCrowding};
 ghost use Rattle.round.specs.Limits.{maxHeld};
 
 // What lies beneath a message that refers to these places.

@@ -20,12 +20,12 @@ ghost use lib.Dec.{eqb};
 ghost use lib.ListN.{length};
 ghost use Rattle.base.specs.Tests.{any, below};
 ghost use Rattle.base.specs.Sets.{has};
-ghost use Rattle.places.specs.PlaceSets.{inSet};
+ghost use Rattle.places.specs.Inside.PlaceSets.{inSet};
 ghost use Rattle.round.specs.Holdings.{signerAt};
 ghost use Rattle.roundbytes.specs.Layout.{roundLen, roundIn};
-ghost use Rattle.notes.specs.Layout.{wordsLen, octetsLen, wordNotes, byteNotes};
-ghost use Rattle.notes.specs.Asking.{Covering};
-ghost use Rattle.scan.specs.Arrays.{isFork, isCaught};
+ghost use Rattle.notes.specs.Inside.Layout.{wordsLen, octetsLen, wordNotes, byteNotes};
+ghost use Rattle.notes.specs.Inside.Asking.{Covering};
+ghost use Rattle.scan.specs.Inside.Arrays.{isFork, isCaught};
 ghost use Rattle.round.specs.Limits.{maxHeld};
 ghost use Rattle.graph.specs.Limits.{maskBits};
 

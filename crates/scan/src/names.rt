@@ -15,9 +15,9 @@ ghost use mathlib.Core.Path.{_≡_};
 ghost use Prim.Native.Nat.{_≤_, _<_};
 ghost use lib.ListN.{length};
 ghost use Rattle.roundbytes.specs.Layout.{roundLen, roundIn};
-ghost use Rattle.notes.specs.Layout.{wordsLen, wordNotes, byteNotes};
-ghost use Rattle.notes.specs.Asking.{Asked};
-ghost use Rattle.scan.specs.Arrays.{Lowest, idKey, IdsIndexed, IdsFiled, NamedMore, NamedAll};
+ghost use Rattle.notes.specs.Inside.Layout.{wordsLen, wordNotes, byteNotes};
+ghost use Rattle.notes.specs.Inside.Asking.{Asked};
+ghost use Rattle.scan.specs.Inside.Arrays.{Lowest, idKey, IdsIndexed, IdsFiled, NamedMore, NamedAll};
 ghost use Rattle.round.specs.Limits.{maxHeld};
 
 // The key of the id that begins at a byte: the low bits of its first byte; 0 where the bytes end before it.

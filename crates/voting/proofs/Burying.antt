@@ -12,10 +12,10 @@ use Rattle.base.specs.Tests.{pick, any, below}
 use Rattle.base.proofs.Tests.{same-test, and-in, and-l, and-r, or-l, or-r, or-out, neqb→ne, ne→neqb, any-in, any-out, below-in, below-out}
 use Rattle.base.specs.Ballots.{valueOf}
 use Rattle.voting.specs.declared.Peaks.{Peaks}
-use Rattle.places.specs.PlaceSets.{Covers}
+use Rattle.places.specs.Inside.PlaceSets.{Covers}
 use Rattle.round.specs.Round.{Round}
-use Rattle.notes.specs.Layout.{WordNotes, ByteNotes}
-use Rattle.voting.specs.Votes.{voteBallot, raised, peaksOf, isBuried, isOpposed, isRival, isBarred}
+use Rattle.notes.specs.Inside.Layout.{WordNotes, ByteNotes}
+use Rattle.voting.specs.Inside.Votes.{voteBallot, raised, peaksOf, isBuried, isOpposed, isRival, isBarred}
 use Rattle.places.proofs.Walks.{Passed}
 use Rattle.places.proofs.Loops.{any-none, not-covered}
 

@@ -12,7 +12,7 @@ use Rattle.round.specs.Holdings.{graphOf}
 use Rattle.roundbytes.specs.Layout.{listCountsAt, masksAt, roundIn}
 use Rattle.roundbytes.proofs.Fields.{list-counts-in, masks-in}
 use Rattle.roundbytes.proofs.Typing.{numbers-length}
-use Rattle.voting.specs.Asking.{Graphed}
+use Rattle.voting.specs.Inside.Asking.{Graphed}
 
 module _ (s masks : List ℕ) (g : Graphed s masks) where
   pub graph-sized : GraphSized (part lists s listCountsAt) masks

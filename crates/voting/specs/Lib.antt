@@ -1,4 +1,2 @@
--- The tests that the loops ask of each vote
-pub mod Votes
--- What is asked of the lent arrays
-pub mod Asking
+-- What only functions inside say to each other: no promise leans on it
+pub mod Inside

@@ -31,13 +31,13 @@ ghost use lib.ListN.{length, getD};
 ghost use Rattle.base.specs.Tests.{any, below};
 ghost use Rattle.base.specs.Sets.{has};
 ghost use Rattle.graph.specs.LearnerGraph.{isQuorum, safeWithout};
-ghost use Rattle.places.specs.PlaceSets.{Covers};
+ghost use Rattle.places.specs.Inside.PlaceSets.{Covers};
 ghost use Rattle.round.specs.Holdings.{graphOf};
 ghost use Rattle.roundbytes.specs.Layout.{roundIn};
-ghost use Rattle.notes.specs.Layout.{octetsLen, wordNotes, byteNotes, Lent};
-ghost use Rattle.voting.specs.Votes.{isVote, voteBallot, raised, peaksOf, isBuried, isOpposed, isRival, isBarred, isBacker, backedBy};
-ghost use Rattle.voting.specs.Asking.{Graphed, Barring, Backing};
-ghost use Rattle.notes.specs.Asking.{Asked, Covering};
+ghost use Rattle.notes.specs.Inside.Layout.{octetsLen, wordNotes, byteNotes, Lent};
+ghost use Rattle.voting.specs.Inside.Votes.{isVote, voteBallot, raised, peaksOf, isBuried, isOpposed, isRival, isBarred, isBacker, backedBy};
+ghost use Rattle.voting.specs.Inside.Asking.{Graphed, Barring, Backing};
+ghost use Rattle.notes.specs.Inside.Asking.{Asked, Covering};
 ghost use Rattle.round.specs.Limits.{maxHeld};
 ghost use Rattle.graph.specs.Limits.{maxLearners, maskBits};
 

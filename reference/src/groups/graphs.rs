@@ -8,10 +8,10 @@ use reference::refusal::answer;
 use reference::sites::{g0, g1, largest};
 
 /// A graph file with the number that document 01 gives it.
-struct Example {
-    name: String,
-    file: Vec<u8>,
-    number: u32,
+pub struct Example {
+    pub name: String,
+    pub file: Vec<u8>,
+    pub number: u32,
 }
 
 fn example(name: impl Into<String>, file: Vec<u8>, number: u32) -> Example {
@@ -110,7 +110,7 @@ fn cut_files() -> Vec<Example> {
 }
 
 /// Document 01's examples for rows 1 to 7, and files ending before each field.
-fn examples() -> Vec<Example> {
+pub fn examples() -> Vec<Example> {
     [fields(), masks(), verdicts(), cut_files()].into_iter().flatten().collect()
 }
 

@@ -6,6 +6,8 @@ mod forgery;
 mod judged;
 mod liar;
 mod neighbours;
+mod openings;
+mod owns;
 mod places;
 mod samples;
 mod seat;
@@ -29,6 +31,8 @@ const LEAST: u64 = if cfg!(feature = "rounds") { 100 } else { 1 };
 /// What the lines say of a run without the library.
 const ALONE: &str = if cfg!(feature = "rounds") { "" } else { ", the model alone" };
 
+/// What an opening can answer: 0, a row of the file, or 17 behind them.
+const OF_OPENING: [usize; 9] = [0, 1, 2, 3, 4, 5, 6, 7, 17];
 /// Every number of the table.
 const OF_OPENED: [usize; 17] = [0, 1, 2, 3, 4, 5, 6, 7, 8, 9, 10, 11, 12, 14, 15, 16, 17];
 /// 5, 6 and 7 are about graph files.
@@ -48,8 +52,37 @@ pub fn run(settings: &Settings) -> Tally {
         &format!("each number of 128 to 255 as a place of a round handed in{ALONE}"),
     );
     samples.tally.add(&places.tally);
+    samples.tally.add(&run_openings(settings));
+    samples.tally.add(&run_owns(settings));
     samples.tally.add(&run_sites(settings));
     samples.tally
+}
+
+/// Files of every kind into buffers of every length.
+fn run_openings(settings: &Settings) -> Tally {
+    let mut referee = Referee::new(settings.random(8));
+    openings::run(&mut referee);
+    let Referee { opened, mut tally, .. } = referee;
+    opened.reached.line("rounds", "openings from each kind of file", &OF_OPENING, 1, &mut tally);
+    tally.line(
+        "rounds",
+        &format!("files of each row and accepted ones, into buffers of no bytes, too short and long enough{ALONE}"),
+    );
+    tally
+}
+
+/// Own acceptor numbers, given and handed in.
+fn run_owns(settings: &Settings) -> Tally {
+    let mut referee = Referee::new(settings.random(9));
+    let [given, handed_in] = owns::run(&mut referee);
+    let mut tally = referee.tally;
+    given.tell(&mut tally, LEAST, "given to an opening");
+    handed_in.tell(&mut tally, LEAST, "handed in");
+    tally.line(
+        "rounds",
+        &format!("own acceptor numbers, of which 256 alone stands for none{ALONE}"),
+    );
+    tally
 }
 
 /// Random sites, until enough rounds ran on them.
@@ -65,9 +98,16 @@ fn run_sites(settings: &Settings) -> Tally {
         }
         sites += 1;
     }
-    let Referee { opened, handed_in, mut tally, rounds, trail, .. } = referee;
+    let Referee { opened, handed_in, short, above, only_above, mut tally, rounds, trail, .. } =
+        referee;
     tell(&opened, "rounds from an opening", &OF_OPENED, &mut tally);
+    let which = "openings into buffers that are too short";
+    short.line("rounds", which, &OF_OPENING[1..], LEAST, &mut tally);
     tell(&handed_in, "rounds handed in", &OF_HANDED_IN, &mut tally);
+    println!("rounds: rounds handed in: {above} with an own number above 256, {only_above} of them with no other fault");
+    tally.check(only_above >= LEAST, || {
+        format!("an own number above 256 as the only fault {only_above} times, not {LEAST}")
+    });
     println!(
         "rounds: agreement met {} pairs of learners that were bound and had decided, and {} that were not bound and ended apart",
         met.bound, met.apart

@@ -5,7 +5,7 @@ use lib.ListN.{length}
 use borrow.Author.Tests.{not-false}
 use lib.Dec.{T}
 use Rattle.roundbytes.specs.Layout.{roundIn}
-use Rattle.answering.specs.Giving.{left, Gives}
+use Rattle.answering.specs.Inside.Giving.{left, Gives}
 use Rattle.round.specs.declared.Outcome.the-variants.{Refused}
 use Rattle.base.specs.declared.refusal.Refusal.the-variants.{Argument}
 use Rattle.engine.proofs.Delivering.{told, misfit, short, let-in, unread}

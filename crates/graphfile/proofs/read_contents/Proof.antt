@@ -2,7 +2,8 @@ use mathlib.Core.Path.{ap, sym, _∙_, subst}
 use Prim.Native.Nat.{_-_}
 use native.Mathlib.Omega.{arith}
 use Rattle.graph.specs.declared.Answer.the-variants.{Accepted}
-use Rattle.graphfile.specs.Arrays.{heldReading, HeadOf}
+use Rattle.graphfile.specs.Arrays.{heldReading}
+use Rattle.graphfile.specs.Inside.Steps.{HeadOf}
 use borrow.Author.Needs.{needs}
 use Rattle.graphfile.proofs.read_contents.Statement.{statement}
 use Rattle.graphfile.proofs.read_contents.Tie as tie

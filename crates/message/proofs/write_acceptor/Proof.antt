@@ -5,7 +5,8 @@ use lib.ListN.{length, length-append}
 use Rattle.base.specs.Bytes.{putAt}
 use Rattle.base.proofs.Bytes.{more-at}
 use Rattle.message.specs.Layout.{marker, acceptorLen}
-use Rattle.message.specs.Writer.{headBytes, hasPrevious, gathered, fronted}
+use Rattle.message.specs.Writer.{headBytes, hasPrevious, fronted}
+use Rattle.message.specs.Inside.Writing.{gathered}
 use Rattle.message.proofs.Encoding.{head-length, previous-span, acceptor-length}
 use Rattle.message.proofs.Gathers.{gathered-length}
 use borrow.Author.Needs.{needs}

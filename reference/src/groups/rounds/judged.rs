@@ -5,6 +5,8 @@ pub use linked::Judged;
 #[cfg(not(feature = "rounds"))]
 pub use unlinked::Judged;
 
+use reference::layout::ROUND_LEN;
+use reference::random::Random;
 use reference::refusal::Refusal;
 
 /// What the model answers to a delivery: a reply, or none, or a refusal.
@@ -13,9 +15,18 @@ pub type Answer = Result<Option<Vec<u8>>, Refusal>;
 /// Nothing, or how the library differed from the model.
 pub type Verdict = Result<(), String>;
 
+/// The length of a round's buffer that is too short, mostly by one byte.
+pub fn short_len(random: &mut Random) -> usize {
+    match random.below(8) {
+        0 => 0,
+        1 => random.below(ROUND_LEN),
+        _ => ROUND_LEN - 1,
+    }
+}
+
 #[cfg(feature = "rounds")]
 mod linked {
-    use super::{Answer, Verdict};
+    use super::{short_len, Answer, Verdict};
     use crate::tally::Lent;
     use reference::layout::{first_difference, ROUND_LEN};
     use reference::library;
@@ -49,14 +60,6 @@ mod linked {
         Err(difference.unwrap_or_else(|| "bytes that are not the round's were written".to_string()))
     }
 
-    /// A round's buffer that is too short, mostly by one byte.
-    fn short_len(random: &mut Random) -> usize {
-        match random.below(4) {
-            0 => random.below(ROUND_LEN),
-            _ => ROUND_LEN - 1,
-        }
-    }
-
     pub struct Judged {
         round: Lent,
         /// What the library answered last; 0 before it was asked.
@@ -64,37 +67,22 @@ mod linked {
     }
 
     impl Judged {
-        /// Opens the library's round; the model foretells its bytes or a refusal.
+        /// Opens the library's round in a buffer of `room` bytes; the model foretells
+        /// the bytes or a refusal.
         pub fn open(
             (random, trail): (&mut Random, &mut Trail),
             file: &[u8],
             (house, bay, own): (u16, u16, Option<u32>),
-            foretold: &Result<Vec<u8>, Refusal>,
+            (room, foretold): (usize, &Result<Vec<u8>, Refusal>),
         ) -> (Option<Self>, Verdict) {
-            let room = ROUND_LEN + random.below(8);
             let mut round = Lent::new(random, room);
             let mut lent = Lent::holding(random, file, file.len());
             let number = library::open(lent.window(), house, bay, own, round.window());
             trail.add(number, &[round.after()]);
             let verdict = numbers_agree(number, answer(foretold))
                 .and_then(|()| buffer_agrees("graph", &lent, file))
-                .and_then(|()| round_agrees(&round, foretold.as_deref().unwrap_or(&[])))
-                .and_then(|()| Self::open_short((random, trail), file, (house, bay, own)));
+                .and_then(|()| round_agrees(&round, foretold.as_deref().unwrap_or(&[])));
             (Some(Judged { round, answer: number }), verdict)
-        }
-
-        /// A round's buffer that is too short is 17, whatever else is wrong.
-        fn open_short(
-            (random, trail): (&mut Random, &mut Trail),
-            file: &[u8],
-            (house, bay, own): (u16, u16, Option<u32>),
-        ) -> Verdict {
-            let len = short_len(random);
-            let mut short = Lent::new(random, len);
-            let number = library::open(file, house, bay, own, short.window());
-            trail.add(number, &[short.after()]);
-            numbers_agree(number, 17)?;
-            buffer_agrees("short", &short, &[])
         }
 
         /// Lends the bytes of a round that no opening need have led to.
@@ -186,7 +174,7 @@ mod unlinked {
             _: (&mut Random, &mut Trail),
             _file: &[u8],
             _round: (u16, u16, Option<u32>),
-            _foretold: &Result<Vec<u8>, Refusal>,
+            _foretold: (usize, &Result<Vec<u8>, Refusal>),
         ) -> (Option<Self>, Verdict) {
             (None, Ok(()))
         }

@@ -10,8 +10,8 @@ use reference::round::Report;
 use reference::sha256::{sha256, Id};
 use reference::sites::{g0, g1};
 
-const HOUSE: u16 = 1;
-const BAY: u16 = 12;
+pub const HOUSE: u16 = 1;
+pub const BAY: u16 = 12;
 
 fn p() -> Vec<u8> {
     vec![0, 0x0f, 1, 1, 0, 1, 0, 0x0c, 0, 0, 0, 0, 5, 0, 0, 0, 0x46]

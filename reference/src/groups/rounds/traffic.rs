@@ -12,6 +12,7 @@ use super::watched::{Referee, Watched};
 use reference::damage;
 use reference::graph::{self, LearnerGraph};
 use reference::handed_in;
+use reference::layout::LISTENING;
 use reference::message::{self, Body, Message};
 use reference::random::Random;
 use reference::refusal::Refusal;
@@ -434,14 +435,23 @@ pub fn run_site(referee: &mut Referee, met: &mut Met, neighbours: &mut Neighbour
     neighbours.check(site.seats.iter().map(Seat::round));
 }
 
+/// A number that few graphs or none have an acceptor for; 256 is none.
+fn some_number(random: &mut Random) -> Option<u32> {
+    let number = match random.below(4) {
+        0 => random.word() as u32 & 0xffff,
+        1 => 0x0100 + random.below(16) as u32,
+        _ => *random.pick(&[4, 15, 16, 17, 254, 255, 257, 511, 512, 65_535, 65_536, u32::MAX]),
+    };
+    (u64::from(number) != LISTENING).then_some(number)
+}
+
 /// An opening from a random file, most of which are turned down.
 pub fn run_opening(referee: &mut Referee) {
     let file = damage::graph_file(&mut referee.random);
     let own = match referee.random.below(3) {
         0 => None,
         1 => Some(referee.random.below(4) as u32),
-        // 256 would be none.
-        _ => Some(*referee.random.pick(&[4, 15, 16, 17, 254, 255, 257, 65_536, u32::MAX])),
+        _ => some_number(&mut referee.random),
     };
     let (house, bay) = (referee.random.word() as u16, referee.random.word() as u16);
     let _ = Watched::open(referee, &file, (house, bay, own));

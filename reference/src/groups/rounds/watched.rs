@@ -1,14 +1,14 @@
 //! A round that is followed: the model's, the bytes that the model foretells,
 //! and beside them the library's.
 
-use super::judged::{Answer, Judged, Verdict};
+use super::judged::{short_len, Answer, Judged, Verdict};
 use crate::tally::{Reached, Tally};
 use reference::handed_in;
-use reference::layout::{self, HELD, OWN};
+use reference::layout::{self, Opening, HELD, LISTENING, OWN, ROUND_LEN};
 use reference::message::LONGEST;
 use reference::random::Random;
 use reference::refusal::{answer, Refusal};
-use reference::round::{self, Delivery, Report, Round, Step};
+use reference::round::{Delivery, Report, Round, Step};
 use reference::trail::Trail;
 
 /// What all comparisons share.
@@ -21,6 +21,12 @@ pub struct Referee {
     pub opened: Counts,
     /// Calls on rounds that were handed in damaged or made up.
     pub handed_in: Counts,
+    /// What the model answered to openings into buffers that were too short.
+    pub short: Reached,
+    /// Rounds handed in with an own number above 256.
+    pub above: u64,
+    /// Those of them in which nothing else is wrong.
+    pub only_above: u64,
     /// Rounds that a site's traffic reached.
     pub rounds: u64,
 }
@@ -60,7 +66,39 @@ impl Referee {
             trail: Trail::default(),
             opened: Counts::default(),
             handed_in: Counts::default(),
+            short: Reached::default(),
+            above: 0,
+            only_above: 0,
             rounds: 0,
+        }
+    }
+
+    /// An opening into a buffer of `room` bytes, of the model and of the library; the
+    /// library's round is given where it is the model's.
+    pub fn open(
+        &mut self,
+        file: &[u8],
+        numbers: (u16, u16, Option<u32>),
+        room: usize,
+    ) -> (Opening, Option<Judged>) {
+        let outcome = layout::open(file, numbers, room);
+        let foretold = outcome.as_ref().map(|(_, bytes)| bytes.clone()).map_err(|row| *row);
+        let lent = (&mut self.random, &mut self.trail);
+        let (judged, verdict) = Judged::open(lent, file, numbers, (room, &foretold));
+        self.opened.count_answer(&judged);
+        let judged = judged.filter(|_| verdict.is_ok());
+        let own = numbers.2;
+        self.tally.judge(verdict, || format!("opening {file:02x?} as {own:?} in {room} bytes"));
+        (outcome, judged)
+    }
+
+    /// Counts the rounds whose own number is no acceptor's of any graph.
+    fn count_own(&mut self, bytes: &[u8]) {
+        if OWN.number(bytes, 0) > LISTENING {
+            let mut listening = bytes.to_vec();
+            OWN.put(&mut listening, 0, LISTENING);
+            self.above += 1;
+            self.only_above += u64::from(handed_in::take(&listening).is_ok());
         }
     }
 
@@ -122,29 +160,24 @@ impl Watched {
     pub fn open(
         referee: &mut Referee,
         file: &[u8],
-        (house, bay, own): (u16, u16, Option<u32>),
+        numbers: (u16, u16, Option<u32>),
     ) -> Result<Self, Refusal> {
-        let model = round::open(file, house, bay, own);
-        let bytes = model.as_ref().map(layout::opened).map_err(|refusal| *refusal);
-        let (judged, verdict) = Judged::open(
-            (&mut referee.random, &mut referee.trail),
-            file,
-            (house, bay, own),
-            &bytes,
-        );
-        referee.opened.reached.count(answer(&model));
-        referee.opened.count_answer(&judged);
-        let agreed = verdict.is_ok();
-        referee.tally.judge(verdict, || format!("opening {file:02x?} as {own:?}"));
-        let bytes = bytes?;
+        let short = short_len(&mut referee.random);
+        let refused = referee.open(file, numbers, short).0;
+        referee.short.count(answer(&refused));
+        let room = ROUND_LEN + referee.random.below(8);
+        let (outcome, judged) = referee.open(file, numbers, room);
+        referee.opened.reached.count(answer(&outcome));
+        let (model, bytes) = outcome?;
         referee.opened.count_round(true);
-        let judged = if agreed { judged } else { Judged::hand_in(&mut referee.random, &bytes) };
-        Ok(Watched { origin: Origin::Opened, model, bytes, judged })
+        let judged = judged.or_else(|| Judged::hand_in(&mut referee.random, &bytes));
+        Ok(Watched { origin: Origin::Opened, model: Ok(model), bytes, judged })
     }
 
     pub fn hand_in(referee: &mut Referee, bytes: Vec<u8>) -> Self {
         let model = handed_in::take(&bytes);
         referee.handed_in.count_round(model.is_ok());
+        referee.count_own(&bytes);
         let judged = Judged::hand_in(&mut referee.random, &bytes);
         Watched { origin: Origin::HandedIn, model, bytes, judged }
     }

@@ -12,7 +12,7 @@ use Rattle.round.specs.Limits.{noPlace}
 use Rattle.round.specs.Holdings.{named, placeOf, idAt}
 use Rattle.round.specs.Handed.{placeFits}
 use Rattle.round.proofs.Fitting.{place-cases}
-use Rattle.admission.specs.Finding.{Bounded, placeFound, Inside}
+use Rattle.admission.specs.Inside.Finding.{Bounded, placeFound, Inside}
 use Rattle.roundbytes.specs.Layout.{roundIn, idsAt}
 use Rattle.admission.specs.declared.lookup.Found.{Found}
 use Rattle.base.specs.Bytes.{part}

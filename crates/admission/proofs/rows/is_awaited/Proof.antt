@@ -8,7 +8,7 @@ use Rattle.roundbytes.specs.Layout.{roundIn}
 use Rattle.admission.specs.declared.lookup.Found.{Found}
 use Rattle.round.specs.Rows.{placed}
 use Rattle.round.specs.Holdings.{isKnown}
-use Rattle.admission.specs.Finding.{placeFound}
+use Rattle.admission.specs.Inside.Finding.{placeFound}
 use Rattle.admission.proofs.rows.is_awaited.Statement.{statement}
 use Rattle.admission.proofs.rows.is_awaited.Tie as tie
 

@@ -16,7 +16,7 @@ use Rattle.message.specs.Layout.{referencesAt, idLen, previousAt}
 use Rattle.base.specs.Tests.{any}
 use Rattle.base.specs.Bytes.{part}
 use Rattle.round.specs.Holdings.{placeOf}
-use Rattle.admission.specs.Finding.{Listed, placeFound}
+use Rattle.admission.specs.Inside.Finding.{Listed, placeFound}
 use Rattle.roundbytes.specs.Layout.{roundIn}
 use Rattle.round.specs.Delivery.{previousPlace}
 use Rattle.admission.proofs.Finding.{found-inside, found-at}

@@ -20,7 +20,7 @@ use Rattle.round.specs.Round.{Round}
 use Rattle.message.specs.declared.AcceptorMessage.{AcceptorMessage}
 use Rattle.round.specs.Limits.{maxHeld}
 use Rattle.roundbytes.specs.Layout.{roundIn}
-use Rattle.admission.specs.Finding.{placesOf, placeFound}
+use Rattle.admission.specs.Inside.Finding.{placesOf, placeFound}
 use Rattle.round.specs.Holdings.{placeOf, isKnown}
 use Rattle.admission.proofs.rows.resolve.Statement.{statement}
 use Rattle.admission.proofs.rows.resolve.Tie as tie

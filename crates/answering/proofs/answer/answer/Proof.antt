@@ -13,11 +13,11 @@ use Rattle.answering.proofs.Replying.{reply-within, reply-refers, reply
 use Rattle.digest.specs.Sha256.{sha256}
 use Rattle.round.specs.Reply.{replyBytes, isSent, replyRecord}
 use Rattle.round.specs.Rows.{messageOf}
-use Rattle.admission.specs.Votes.{recordOf}
+use Rattle.admission.specs.Inside.Votes.{recordOf}
 use Rattle.protocol.specs.Ids.{Id}
 use Rattle.protocol.specs.Table.{Held}
 use Rattle.round.specs.Delivery.{sent, joins, withRecent, hold}
-use Rattle.answering.specs.Giving.{left, replies}
+use Rattle.answering.specs.Inside.Giving.{left, replies}
 use Rattle.message.specs.Layout.{idLen}
 use Rattle.base.specs.Bytes.{putAt}
 use Rattle.answering.proofs.answer.answer.Statement.{statement}

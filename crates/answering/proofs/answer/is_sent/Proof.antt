@@ -2,7 +2,7 @@ use borrow.Author.Needs.{needs}
 use Rattle.roundbytes.specs.Layout.{roundIn}
 use Rattle.answering.proofs.Replying.{sent-judged}
 use Rattle.round.specs.Rows.{messageOf}
-use Rattle.admission.specs.Votes.{recordOf}
+use Rattle.admission.specs.Inside.Votes.{recordOf}
 use Rattle.answering.proofs.answer.is_sent.Statement.{statement}
 use Rattle.answering.proofs.answer.is_sent.Tie as tie
 

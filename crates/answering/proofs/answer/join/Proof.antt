@@ -1,6 +1,6 @@
 use borrow.Author.Needs.{needs}
 use mathlib.Core.Path.{ap}
-use Rattle.answering.specs.Giving.{accepts}
+use Rattle.answering.specs.Inside.Giving.{accepts}
 use Rattle.answering.proofs.answer.join.Statement.{statement}
 use Rattle.answering.proofs.answer.join.Tie as tie
 

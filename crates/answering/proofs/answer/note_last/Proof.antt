@@ -3,7 +3,7 @@ use mathlib.Core.Path.{subst, sym, _∙_}
 use Prim.Native.Nat.{ℕ}
 use mathlib.Core.Logic.{⊎-elim}
 use Rattle.roundbytes.specs.Layout.{roundIn}
-use Rattle.derive.specs.Complete.{WorkedTo}
+use Rattle.derive.specs.Inside.Complete.{WorkedTo}
 use Rattle.meaning.proofs.Giving.{given-of}
 use Rattle.answering.proofs.answer.note_last.Statement.{statement}
 use Rattle.answering.proofs.answer.note_last.Tie as tie

@@ -6,7 +6,7 @@ use Rattle.answering.proofs.Replying.{process-listening, process-voting
 use Rattle.digest.specs.Sha256.{sha256}
 use Rattle.round.specs.Limits.{listening}
 use Rattle.roundbytes.specs.Layout.{roundIn}
-use Rattle.answering.specs.Giving.{left}
+use Rattle.answering.specs.Inside.Giving.{left}
 use Rattle.answering.proofs.answer.process.Statement.{statement}
 use Rattle.answering.proofs.answer.process.Tie as tie
 

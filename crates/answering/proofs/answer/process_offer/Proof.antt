@@ -8,7 +8,7 @@ use Rattle.digest.specs.Sha256.{sha256}
 use Rattle.round.specs.Limits.{listening}
 use Rattle.roundbytes.proofs.Fields.{masks-in}
 use Rattle.roundbytes.specs.Layout.{roundIn}
-use Rattle.answering.specs.Giving.{left}
+use Rattle.answering.specs.Inside.Giving.{left}
 use Rattle.answering.proofs.answer.process_offer.Statement.{statement}
 use Rattle.answering.proofs.answer.process_offer.Tie as tie
 

@@ -5,7 +5,7 @@ use Prim.Native.Nat.{ℕ}
 use lib.ListN.{set, replicate}
 use Rattle.answering.proofs.Replying.{kept-long, kept-on}
 use Rattle.roundbytes.specs.Layout.{roundIn}
-use Rattle.answering.specs.Giving.{replies}
+use Rattle.answering.specs.Inside.Giving.{replies}
 use Rattle.round.specs.Delivery.{Delivered, withRecent}
 use Rattle.round.specs.Round.{Round}
 use Rattle.round.specs.Limits.{maxHeld}

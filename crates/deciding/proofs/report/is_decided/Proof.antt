@@ -3,8 +3,8 @@ use Rattle.base.specs.Sets.{has}
 use Rattle.graph.proofs.LearnerGraph.{quorum-cong}
 use Rattle.round.specs.Holdings.{graphOf}
 use Rattle.roundbytes.specs.Layout.{roundIn}
-use Rattle.notes.specs.Layout.{wordNotes, byteNotes}
-use Rattle.deciding.specs.Deciding.{votersFor}
+use Rattle.notes.specs.Inside.Layout.{wordNotes, byteNotes}
+use Rattle.deciding.specs.Inside.Deciding.{votersFor}
 use Rattle.deciding.proofs.Voters.{covers-voters}
 use borrow.Author.Needs.{needs}
 use native.Mathlib.Omega.{arith}

@@ -3,11 +3,11 @@ use Prim.Native.Nat.{ℕ, _-_}
 use native.Mathlib.Numerals.{add-one}
 use lib.ListN.{getD}
 use Rattle.roundbytes.specs.Layout.{roundIn}
-use Rattle.notes.specs.Layout.{wordNotes, byteNotes}
-use Rattle.places.specs.PlaceSets.{Covers}
+use Rattle.notes.specs.Inside.Layout.{wordNotes, byteNotes}
+use Rattle.places.specs.Inside.PlaceSets.{Covers}
 use Rattle.places.proofs.Walks.{Left, walk-begun, walked-on}
 use Rattle.deciding.specs.declared.Least.{Least}
-use Rattle.deciding.specs.Deciding.{isDeciding, lowered, leastOf}
+use Rattle.deciding.specs.Inside.Deciding.{isDeciding, lowered, leastOf}
 use Rattle.deciding.proofs.Voters.{covers-deciding, least-next}
 use borrow.Author.Needs.{needs}
 use native.Mathlib.Omega.{arith}

@@ -9,9 +9,9 @@ use Rattle.base.specs.Ballots.{valueOf}
 use Rattle.graph.specs.LearnerGraph.{isQuorum}
 use Rattle.round.specs.Holdings.{graphOf}
 use Rattle.roundbytes.specs.Layout.{roundIn}
-use Rattle.notes.specs.Layout.{wordNotes, byteNotes}
+use Rattle.notes.specs.Inside.Layout.{wordNotes, byteNotes}
 use Rattle.deciding.specs.declared.Least.{Least}
-use Rattle.deciding.specs.Deciding.{isKnown2a, votersFor, lowered}
+use Rattle.deciding.specs.Inside.Deciding.{isKnown2a, votersFor, lowered}
 use borrow.Author.Needs.{needs}
 use Rattle.deciding.proofs.report.lower.Statement.{statement}
 use Rattle.deciding.proofs.report.lower.Tie as tie

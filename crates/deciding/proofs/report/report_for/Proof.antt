@@ -2,7 +2,7 @@ use borrow.Author.Tests.{not-true, not-false}
 use Rattle.protocol.proofs.Growth.{length-tabulate}
 use Rattle.round.specs.Holdings.{recordAt, tableOf}
 use Rattle.roundbytes.specs.Layout.{roundIn}
-use Rattle.notes.specs.Layout.{wordNotes, byteNotes}
+use Rattle.notes.specs.Inside.Layout.{wordNotes, byteNotes}
 use Rattle.deciding.proofs.Verdicts.{undecided-told, split-told, decided-told}
 use borrow.Author.Needs.{needs}
 use Rattle.deciding.proofs.report.report_for.Statement.{statement}

@@ -7,12 +7,12 @@ use Rattle.base.specs.Sets.{has}
 use Rattle.base.proofs.Tests.{and-l}
 use Rattle.round.specs.Holdings.{signerAt}
 use Rattle.roundbytes.specs.Layout.{roundIn}
-use Rattle.notes.specs.Layout.{wordNotes, byteNotes}
-use Rattle.places.specs.PlaceSets.{Covers}
+use Rattle.notes.specs.Inside.Layout.{wordNotes, byteNotes}
+use Rattle.places.specs.Inside.PlaceSets.{Covers}
 use Rattle.places.proofs.Membership.{has-zero}
 use Rattle.places.proofs.Walks.{Left, walk-begun, walked-on}
 use Rattle.places.proofs.Loops.{put-again, any-next, any-done}
-use Rattle.deciding.specs.Deciding.{isVoter}
+use Rattle.deciding.specs.Inside.Deciding.{isVoter}
 use borrow.Author.Needs.{needs}
 use native.Mathlib.Omega.{arith}
 use Rattle.deciding.proofs.report.voters.Statement.{statement}

@@ -11,12 +11,12 @@ use Rattle.protocol.proofs.Growth.{length-tabulate}
 use Rattle.round.specs.Limits.{maxHeld}
 use Rattle.round.specs.Holdings.{graphOf, named, recordAt, tableOf}
 use Rattle.roundbytes.specs.Layout.{roundIn}
-use Rattle.notes.specs.Layout.{wordNotes, byteNotes}
-use Rattle.voting.specs.Votes.{backedBy}
+use Rattle.notes.specs.Inside.Layout.{wordNotes, byteNotes}
+use Rattle.voting.specs.Inside.Votes.{backedBy}
 use Rattle.meaning.proofs.Working.{first-judged, second-judged}
 use Rattle.meaning.proofs.Walking.{covers-crowd, covers-backers}
 use Rattle.meaning.proofs.Naming.{candidate}
-use Rattle.scan.specs.Arrays.{isCrowding, Lowest}
+use Rattle.scan.specs.Inside.Arrays.{isCrowding, Lowest}
 use borrow.Author.Needs.{needs}
 use Rattle.derive.proofs.new.judge.Statement.{statement}
 use Rattle.derive.proofs.new.judge.Tie as tie

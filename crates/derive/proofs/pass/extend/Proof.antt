@@ -5,8 +5,8 @@ use native.Mathlib.Omega.{arith}
 use lib.ListN.{length}
 use borrow.Author.Needs.{needs}
 use Rattle.roundbytes.specs.Layout.{roundIn}
-use Rattle.notes.specs.Layout.{wordNotes, byteNotes, Lent}
-use Rattle.derive.specs.Complete.{Extended}
+use Rattle.notes.specs.Inside.Layout.{wordNotes, byteNotes, Lent}
+use Rattle.derive.specs.Inside.Complete.{Extended}
 use Rattle.derive.proofs.Extending.{then}
 use Rattle.derive.proofs.pass.extend.Statement.{statement}
 use Rattle.derive.proofs.pass.extend.Tie as tie

@@ -5,8 +5,8 @@ use borrow.Author.Tests.{eq-eqb, ne-eqb}
 use Rattle.message.specs.Layout.{proposalKind}
 use Rattle.round.specs.Holdings.{graphOf}
 use Rattle.roundbytes.specs.Layout.{roundIn}
-use Rattle.meaning.specs.Records.{tableTo}
-use Rattle.meaning.specs.Notes.{Noted}
+use Rattle.meaning.specs.Inside.Records.{tableTo}
+use Rattle.meaning.specs.Inside.Notes.{Noted}
 use Rattle.meaning.proofs.Passing.{held-noted, offer-noted}
 use borrow.Author.Needs.{needs}
 use Rattle.derive.proofs.pass.note_held.Statement.{statement}

@@ -6,11 +6,11 @@ use lib.Dec.{eqb}
 use lib.ListN.{length, getD}
 use Rattle.round.specs.Holdings.{signerAt}
 use Rattle.roundbytes.specs.Layout.{roundIn}
-use Rattle.notes.specs.Layout.{WordNotes, ByteNotes, wordNotes, byteNotes}
-use Rattle.notes.specs.Index.{linkAt}
-use Rattle.notes.specs.Writing.{wordsNoted, FiledIn}
+use Rattle.notes.specs.Inside.Layout.{WordNotes, ByteNotes, wordNotes, byteNotes}
+use Rattle.notes.specs.Inside.Index.{linkAt}
+use Rattle.notes.specs.Inside.Writing.{wordsNoted, FiledIn}
 use Rattle.notes.proofs.Fields.{word-rooms, byte-rooms}
-use Rattle.derive.specs.Complete.{Extended}
+use Rattle.derive.specs.Inside.Complete.{Extended}
 use Rattle.derive.proofs.Extending.{one-more}
 use borrow.Author.Needs.{needs}
 use Rattle.derive.proofs.pass.note_place.Statement.{statement}

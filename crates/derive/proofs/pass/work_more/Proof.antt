@@ -4,13 +4,13 @@ use native.Mathlib.Omega.{arith}
 use lib.ListN.{length}
 use Rattle.round.specs.Holdings.{graphOf}
 use Rattle.roundbytes.specs.Layout.{roundIn}
-use Rattle.notes.specs.Layout.{wordNotes, byteNotes}
-use Rattle.notes.specs.Index.{Marks}
+use Rattle.notes.specs.Inside.Layout.{wordNotes, byteNotes}
+use Rattle.notes.specs.Inside.Index.{Marks}
 use Rattle.notes.proofs.Fields.{byte-rooms}
-use Rattle.scan.specs.Arrays.{Named, IdsIndexed, NamedAll}
+use Rattle.scan.specs.Inside.Arrays.{Named, IdsIndexed, NamedAll}
 use Rattle.scan.proofs.Naming.{all-more}
-use Rattle.meaning.specs.Records.{tableTo}
-use Rattle.meaning.specs.Notes.{AllNoted}
+use Rattle.meaning.specs.Inside.Records.{tableTo}
+use Rattle.meaning.specs.Inside.Notes.{AllNoted}
 use Rattle.meaning.proofs.Growing.{known-renamed}
 use Rattle.derive.proofs.Keeping.{marks-named}
 use Rattle.derive.proofs.Extending.{all-complete}

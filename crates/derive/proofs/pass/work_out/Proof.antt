@@ -5,8 +5,8 @@ use lib.ListN.{length}
 use Rattle.protocol.specs.Table.{tabulate}
 use Rattle.round.specs.Holdings.{graphOf}
 use Rattle.roundbytes.specs.Layout.{roundIn}
-use Rattle.notes.specs.Layout.{wordNotes, byteNotes}
-use Rattle.scan.specs.Arrays.{Named, IdsIndexed}
+use Rattle.notes.specs.Inside.Layout.{wordNotes, byteNotes}
+use Rattle.scan.specs.Inside.Arrays.{Named, IdsIndexed}
 use Rattle.meaning.proofs.Growing.{known-none}
 use Rattle.meaning.proofs.Walking.{marks-none}
 use Rattle.derive.proofs.Extending.{all-complete}

@@ -5,8 +5,8 @@ use Rattle.admission.proofs.Finding.{found-inside}
 use Rattle.roundbytes.specs.Layout.{roundIn}
 use Rattle.round.proofs.Fitting.{fits-out}
 use Rattle.engine.proofs.Entering.{room-held}
-use Rattle.admission.specs.Finding.{placeFound}
-use Rattle.engine.specs.Entering.{enteredIn, enteredAt}
+use Rattle.admission.specs.Inside.Finding.{placeFound}
+use Rattle.round.specs.Delivery.{enteredIn, enteredAt}
 use Rattle.protocol.specs.Table.{offers}
 use Rattle.engine.proofs.enter.enter_proposal.Statement.{statement}
 use Rattle.engine.proofs.enter.enter_proposal.Tie as tie

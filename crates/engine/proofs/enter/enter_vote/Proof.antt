@@ -6,9 +6,9 @@ use Rattle.roundbytes.specs.Layout.{roundIn}
 use Rattle.round.proofs.Fitting.{fits-out}
 use Rattle.judging.proofs.Voting.{refers}
 use Rattle.engine.proofs.Entering.{room-held}
-use Rattle.admission.specs.Finding.{placeFound}
-use Rattle.engine.specs.Entering.{enteredIn, enteredAt}
-use Rattle.admission.specs.Votes.{recordOf}
+use Rattle.admission.specs.Inside.Finding.{placeFound}
+use Rattle.round.specs.Delivery.{enteredIn, enteredAt}
+use Rattle.admission.specs.Inside.Votes.{recordOf}
 use Rattle.engine.proofs.enter.enter_vote.Statement.{statement}
 use Rattle.engine.proofs.enter.enter_vote.Tie as tie
 

@@ -4,16 +4,16 @@ use Rattle.meaning.proofs.Giving.{given-of}
 use mathlib.Core.Path.{_∙_, sym, refl}
 use Rattle.roundbytes.proofs.Fields.{masks-in}
 use Rattle.roundbytes.specs.Layout.{roundIn}
-use Rattle.admission.specs.Votes.{recordOf}
-use Rattle.judging.specs.Turning.{soundRow}
+use Rattle.admission.specs.Inside.Votes.{recordOf}
+use Rattle.judging.specs.Inside.Turning.{soundRow}
 use Rattle.round.specs.Rows.{messageOf}
 use Rattle.engine.proofs.Taking.{taken-refused, taken-entered}
 use Rattle.digest.specs.Sha256.{sha256}
-use Rattle.answering.specs.Giving.{left}
+use Rattle.answering.specs.Inside.Giving.{left}
 use Rattle.round.specs.declared.Outcome.the-variants.{Refused}
 use Rattle.judging.proofs.Ordered.{row-applies, row-clear}
 use Rattle.judging.proofs.Voting.{sound-free}
-use Rattle.engine.specs.Entering.{Enterable}
+use Rattle.engine.specs.Inside.Entering.{Enterable}
 use Rattle.base.specs.Bytes.{Octets}
 use Rattle.engine.proofs.Entering.{vote-storable, answerable, masks-then, begun-then, entered-gives}
 use Rattle.answering.proofs.Replying.{kept-on}

@@ -8,13 +8,13 @@ use Rattle.protocol.specs.Table.{offers}
 use Rattle.round.specs.Rows.{firstOf, proposalRows, otherRound, isKnownId, full, placed}
 use Rattle.engine.proofs.Taking.{taken-refused, proposal-row, three-other, three-known, three-full, taken-entered, three-none}
 use Rattle.digest.specs.Sha256.{sha256}
-use Rattle.answering.specs.Giving.{left}
+use Rattle.answering.specs.Inside.Giving.{left}
 use Rattle.round.specs.declared.Outcome.the-variants.{Refused}
 use Rattle.base.specs.declared.refusal.Refusal.the-variants.{OtherRound, Known, Full}
 use Rattle.judging.proofs.Voting.{stands}
 use Rattle.admission.proofs.Finding.{found-inside}
 use Rattle.round.specs.Holdings.{isKnown}
-use Rattle.engine.specs.Entering.{Enterable}
+use Rattle.engine.specs.Inside.Entering.{Enterable}
 use Rattle.base.specs.Bytes.{Octets}
 use Rattle.engine.proofs.Entering.{proposal-storable, answerable, entered-gives}
 use Rattle.answering.proofs.Replying.{kept-on}

@@ -6,12 +6,12 @@ use Rattle.admission.proofs.Finding.{found-inside}
 use Rattle.roundbytes.specs.Layout.{roundIn}
 use Rattle.engine.proofs.Taking.{taken-refused, taken-settled}
 use Rattle.digest.specs.Sha256.{sha256}
-use Rattle.answering.specs.Giving.{left}
+use Rattle.answering.specs.Inside.Giving.{left}
 use Rattle.round.specs.declared.Outcome.the-variants.{Refused}
 use Rattle.round.proofs.Fitting.{fits-out}
 use Rattle.judging.proofs.Ordered.{row-clear}
 use Rattle.round.specs.Rows.{previousId, referenceIds}
-use Rattle.admission.specs.Votes.{recordOf}
+use Rattle.admission.specs.Inside.Votes.{recordOf}
 use Rattle.engine.proofs.take.take_vote.Statement.{statement}
 use Rattle.engine.proofs.take.take_vote.Tie as tie
 

@@ -2,7 +2,8 @@ use mathlib.Core.Path.{ap, _∙_}
 use Prim.Native.Nat.{ℕ, _-_, _+_, _*_}
 use Rattle.base.specs.Tests.{any}
 use lib.Seq.{slice}
-use Rattle.graph.specs.Memory.{within, listOf}
+use Rattle.graph.specs.Memory.{listOf}
+use Rattle.graph.specs.Inside.Asking.{within}
 use borrow.Author.Needs.{needs}
 use Rattle.graph.proofs.lists.holds.Statement.{statement}
 use Rattle.graph.proofs.lists.holds.Tie as tie

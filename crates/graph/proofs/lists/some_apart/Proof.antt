@@ -2,7 +2,8 @@ use mathlib.Core.Path.{ap, _∙_}
 use Prim.Native.Nat.{ℕ, _-_}
 use lib.Bits.{bitAnd}
 use Rattle.base.specs.Tests.{any}
-use Rattle.graph.specs.Memory.{within, listOf}
+use Rattle.graph.specs.Memory.{listOf}
+use Rattle.graph.specs.Inside.Asking.{within}
 use Rattle.graph.proofs.Memory.{list-apart}
 use borrow.Author.Needs.{needs}
 use native.Mathlib.Omega.{arith}

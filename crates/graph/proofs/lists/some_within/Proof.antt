@@ -3,7 +3,7 @@ use Prim.Native.Nat.{_-_}
 use Rattle.base.specs.Tests.{any}
 use lib.Seq.{slice}
 use Rattle.base.proofs.Tests.{any-end, any-here, any-past}
-use Rattle.graph.specs.Memory.{within}
+use Rattle.graph.specs.Inside.Asking.{within}
 use borrow.Author.Needs.{needs}
 use Rattle.graph.proofs.lists.some_within.Statement.{statement}
 use Rattle.graph.proofs.lists.some_within.Tie as tie

@@ -5,7 +5,7 @@ use lib.Seq.{slice}
 use lib.Bits.{bitOr}
 use lib.Pow.{pow-pos}
 use Rattle.base.specs.Tests.{any}
-use Rattle.graph.specs.Memory.{within}
+use Rattle.graph.specs.Inside.Asking.{within}
 use Rattle.graph.proofs.Memory.{some-contained}
 use Rattle.graphfile.proofs.Reader.{mask-zero, mask-unknown, mask-order, mask-last}
 use borrow.Author.Needs.{needs}

@@ -3,7 +3,7 @@ use Prim.Native.Nat.{ℕ, _-_, _*_}
 use mathlib.Core.List.{[]}
 use Rattle.graph.specs.Limits.{maxMasks}
 use Rattle.graphfile.specs.File.{Got, andThen, last, readCount, readMasks, readList}
-use Rattle.graphfile.specs.Arrays.{MasksHeld}
+use Rattle.graphfile.specs.Inside.Steps.{MasksHeld}
 use Rattle.graphfile.specs.declared.file.Field.{Field}
 use Rattle.graphfile.specs.declared.file.Field.the-variants as Field
 use Rattle.graphfile.proofs.Reader.{value-no, count-is}

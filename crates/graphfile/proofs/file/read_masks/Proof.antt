@@ -4,7 +4,7 @@ use lib.ListN.{length, length-set, length-append}
 use mathlib.Core.List.{List, [], _∷_, _++_}
 use Rattle.base.specs.Bytes.{be, putAt}
 use Rattle.graphfile.specs.File.{Got, last, maskAnswer, readMasks}
-use Rattle.graphfile.specs.Arrays.{MasksHeld}
+use Rattle.graphfile.specs.Inside.Steps.{MasksHeld}
 use Rattle.graph.specs.Limits.{maskBytes}
 use Rattle.graph.specs.declared.Answer.{Answer}
 use Rattle.graph.specs.declared.Answer.the-variants as Answer

@@ -6,7 +6,8 @@ use Rattle.graphfile.specs.File.{Got, last}
 use Rattle.graphfile.specs.declared.file.Field.{Field}
 use Rattle.graphfile.specs.declared.file.Field.the-variants as Field
 use Rattle.graph.specs.Memory.{pairList, GraphSized}
-use Rattle.graphfile.specs.Arrays.{holdAll, HeldAfter}
+use Rattle.graphfile.specs.Arrays.{holdAll}
+use Rattle.graphfile.specs.Inside.Steps.{HeldAfter}
 use Rattle.graphfile.proofs.Reader.{Filled, filled-none, filled-no, filled-got, filled-more, filled-all}
 use borrow.Author.Needs.{needs}
 use native.Mathlib.Omega.{arith}

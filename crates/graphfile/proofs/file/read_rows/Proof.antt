@@ -6,7 +6,8 @@ use Rattle.graphfile.specs.File.{Got, last}
 use Rattle.graphfile.specs.declared.file.Field.{Field}
 use Rattle.graphfile.specs.declared.file.Field.the-variants as Field
 use Rattle.graph.specs.Memory.{GraphSized}
-use Rattle.graphfile.specs.Arrays.{holdRows, HeldAfter}
+use Rattle.graphfile.specs.Arrays.{holdRows}
+use Rattle.graphfile.specs.Inside.Steps.{HeldAfter}
 use Rattle.graphfile.proofs.Reader.{RowsFilled, rows-none, rows-no, rows-filled, rows-all}
 use borrow.Author.Needs.{needs}
 use native.Mathlib.Omega.{arith}

@@ -5,7 +5,8 @@ use lib.ListN.{length}
 use Rattle.base.specs.Bytes.{putAt}
 use Rattle.graph.specs.Memory.{heldGraph}
 use Rattle.graphfile.specs.File.{learnersAt, Contents}
-use Rattle.graphfile.specs.Writer.{fileBytes, contentsOf, PutIn}
+use Rattle.graphfile.specs.Writer.{fileBytes, contentsOf}
+use Rattle.graphfile.specs.Inside.Steps.{PutIn}
 use Rattle.graphfile.proofs.Putting.{file-least, file-length, file-most, headed, quorums-room, rows-room, body-end, file-put}
 use borrow.Author.Needs.{needs}
 use native.Mathlib.Omega.{arith}

@@ -3,7 +3,8 @@ use mathlib.Core.Path.{_≡_, refl, ap}
 use Prim.Native.Nat.{ℕ, _-_, _≤_}
 use lib.ListN.{length}
 use Rattle.graph.specs.Memory.{listOf}
-use Rattle.graphfile.specs.Writer.{listsBytes, listed, quorumsOf}
+use Rattle.graphfile.specs.Writer.{listsBytes, listed}
+use Rattle.graphfile.specs.Inside.Steps.{quorumsOf}
 use Rattle.graphfile.proofs.Putting.{putting-from, ListsPut, list-room, list-more, lists-all}
 use borrow.Author.Needs.{needs}
 use native.Mathlib.Omega.{arith}

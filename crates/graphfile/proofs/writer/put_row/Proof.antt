@@ -3,7 +3,8 @@ use mathlib.Core.Path.{_≡_, refl, ap, subst}
 use Prim.Native.Nat.{ℕ, _-_, _≤_}
 use lib.ListN.{length}
 use Rattle.graph.specs.Memory.{listOf, pairList}
-use Rattle.graphfile.specs.Writer.{listBytes, listsBytes, rowOf, PutIn}
+use Rattle.graphfile.specs.Writer.{listBytes, listsBytes}
+use Rattle.graphfile.specs.Inside.Steps.{rowOf, PutIn}
 use Rattle.graphfile.proofs.Putting.{putting-none, ListsPut, list-room, list-more, lists-all}
 use borrow.Author.Needs.{needs}
 use native.Mathlib.Omega.{arith}

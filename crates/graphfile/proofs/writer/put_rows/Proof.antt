@@ -3,7 +3,8 @@ use mathlib.Core.Path.{_≡_, refl, ap}
 use Prim.Native.Nat.{ℕ, _-_, _≤_}
 use lib.ListN.{length}
 use Rattle.graph.specs.Memory.{listOf, pairList}
-use Rattle.graphfile.specs.Writer.{rowsBytes, rowsFrom, rowsOf}
+use Rattle.graphfile.specs.Writer.{rowsBytes, rowsFrom}
+use Rattle.graphfile.specs.Inside.Steps.{rowsOf}
 use Rattle.graphfile.proofs.Putting.{putting-from, RowsPut, row-room, row-more, rows-all}
 use borrow.Author.Needs.{needs}
 use native.Mathlib.Omega.{arith}

@@ -12,7 +12,7 @@ use Rattle.base.specs.Bytes.{putAt}
 use Rattle.roundbytes.proofs.InPlace.{Written, parts, put-next, unwritten, round-then, of-parts}
 use Rattle.base.proofs.Cuts.{into}
 use Rattle.admission.specs.declared.rows.Vote.{Vote}
-use Rattle.admission.specs.Votes.{refersTo}
+use Rattle.admission.specs.Inside.Votes.{refersTo}
 use Rattle.protocol.specs.Ids.{Id}
 use Rattle.round.specs.Delivery.{previousPlace, withRow, hold}
 use Rattle.message.specs.Layout.{acceptorKind}

@@ -5,7 +5,8 @@ use mathlib.Core.Path.{_≡_, _∙_}
 use native.Mathlib.Omega.{arith}
 use borrow.Author.Needs.{needs}
 use Rattle.protocol.specs.Ids.{Id}
-use Rattle.roundbytes.specs.Layout.{roundLen, heldAt, idsAt, kindsAt, signersAt, ballotsAt, previousAt, countsAt, knownAt, recentAt, roundIn, Kept, numbers}
+use Rattle.roundbytes.specs.Layout.{roundLen, heldAt, idsAt, kindsAt, signersAt, ballotsAt, previousAt, countsAt, knownAt, recentAt, roundIn, numbers}
+use Rattle.roundbytes.specs.Inside.Keeping.{Kept}
 use Rattle.round.specs.Limits.{maxHeld}
 use Rattle.message.specs.Layout.{idLen}
 use Rattle.base.specs.Bytes.{putAt, bytes, part}

@@ -5,7 +5,8 @@ use mathlib.Core.Path.{_≡_, _∙_, sym, ap}
 use native.Mathlib.Omega.{arith}
 use borrow.Author.Needs.{needs}
 use mathlib.Core.Option.{none}
-use Rattle.roundbytes.specs.Layout.{roundLen, recentAt, lastAt, roundIn, Kept}
+use Rattle.roundbytes.specs.Layout.{roundLen, recentAt, lastAt, roundIn}
+use Rattle.roundbytes.specs.Inside.Keeping.{Kept}
 use Rattle.round.specs.Limits.{maxHeld}
 use Rattle.base.specs.Bytes.{putAt, part}
 use Rattle.round.specs.Delivery.{withRecent}

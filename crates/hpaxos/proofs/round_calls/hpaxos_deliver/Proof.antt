@@ -1,6 +1,6 @@
 use mathlib.Core.Path.{ap, sym, _∙_}
 use native.Mathlib.Omega.{arith}
-use Rattle.hpaxos.specs.Round.{deliverNumber}
+use Rattle.round.specs.Answers.{outcomeNumber}
 use Rattle.hpaxos.proofs.Rounds.{reply-short}
 use borrow.Author.Needs.{needs}
 use Rattle.hpaxos.proofs.round_calls.hpaxos_deliver.Statement.{statement}
@@ -39,7 +39,7 @@ same-length-2 c = search needs
 returns : tie.Need-returns
 returns c =
     let d = c .before .before .before .before .before .before .deliver in
-    (sym (ap deliverNumber (c .enum-told .given .1)) ∙ ap deliverNumber (d .ensures .0), d .ensures .1 .0, d .ensures .1 .1)
+    (sym (ap outcomeNumber (c .enum-told .given .1)) ∙ ap outcomeNumber (d .ensures .0), d .ensures .1 .0, d .ensures .1 .1)
 
 same-length-3 : tie.Need-same-length-3
 same-length-3 c = search needs
@@ -50,7 +50,7 @@ same-length-4 c = search needs
 returns-2 : tie.Need-returns-2
 returns-2 c =
     let d = c .before .before .before .before .before .before .before .deliver in
-    (sym (ap deliverNumber (c .before .len .given .1)) ∙ ap deliverNumber (d .ensures .0), d .ensures .1 .0, d .ensures .1 .1)
+    (sym (ap outcomeNumber (c .before .len .given .1)) ∙ ap outcomeNumber (d .ensures .0), d .ensures .1 .0, d .ensures .1 .1)
 
 same-length-5 : tie.Need-same-length-5
 same-length-5 c = search needs
@@ -61,7 +61,7 @@ same-length-6 c = search needs
 returns-3 : tie.Need-returns-3
 returns-3 c =
     let d = c .before .before .before .before .before .before .before .before .deliver in
-    (c .number .ensures ∙ sym (ap deliverNumber (c .before .before .e .given .1)) ∙ ap deliverNumber (d .ensures .0), d .ensures .1 .0, d .ensures .1 .1)
+    (c .number .ensures ∙ sym (ap outcomeNumber (c .before .before .e .given .1)) ∙ ap outcomeNumber (d .ensures .0), d .ensures .1 .0, d .ensures .1 .1)
 
 pub hpaxos-deliver-spec : {M : Type 1} → statement M
 hpaxos-deliver-spec =

@@ -3,7 +3,7 @@ use mathlib.Core.Path.{_≡_, _∙_, sym, refl}
 use lib.ListN.{length}
 use Rattle.roundbytes.specs.Layout.{roundIn}
 use Rattle.round.specs.Rows.{lacks, referenceIds, unchained, previousId}
-use Rattle.order.specs.Rows.{rowOf, chainRow}
+use Rattle.order.specs.Inside.Rows.{rowOf, chainRow}
 use Rattle.round.specs.Limits.{maxHeld}
 use Rattle.judging.proofs.Ordered.{chain-none, row-clear}
 use Rattle.judging.proofs.rows.chain_row.Statement.{statement}

@@ -5,7 +5,7 @@ use lib.Dec.{leb}
 use Rattle.roundbytes.specs.Layout.{roundIn}
 use Rattle.round.specs.Rows.{placed}
 use Rattle.round.specs.Holdings.{isKnown}
-use Rattle.order.specs.Rows.{rowOf, headRow}
+use Rattle.order.specs.Inside.Rows.{rowOf, headRow}
 use Rattle.judging.proofs.rows.head_row.Statement.{statement}
 use Rattle.judging.proofs.rows.head_row.Tie as tie
 

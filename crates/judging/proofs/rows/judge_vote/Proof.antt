@@ -3,12 +3,12 @@ use lib.ListN.{take}
 use Prim.Native.Nat.{_-_, ℕ}
 use mathlib.Core.Path.{_≡_, subst}
 use mathlib.Core.List.{List}
-use Rattle.admission.specs.Votes.{refersTo}
+use Rattle.admission.specs.Inside.Votes.{refersTo}
 use Rattle.judging.proofs.Ordered.{front-part}
 use Rattle.round.proofs.Fitting.{place-cases}
 use Rattle.roundbytes.specs.Layout.{roundIn}
 use Rattle.base.specs.Tests.{_∈_}
-use Rattle.meaning.specs.Notes.{Judged}
+use Rattle.meaning.specs.Inside.Notes.{Judged}
 use Rattle.meaning.proofs.Giving.{given-of}
 use Rattle.round.specs.Holdings.{graphOf, named}
 use Rattle.round.specs.Rows.{messageOf}

@@ -4,8 +4,8 @@ use Rattle.judging.proofs.Voting.{stands, form-judged}
 use Rattle.admission.proofs.Finding.{found-inside}
 use Rattle.roundbytes.specs.Layout.{roundIn}
 use Rattle.round.specs.Rows.{messageOf}
-use Rattle.admission.specs.Votes.{recordOf}
-use Rattle.order.specs.Rows.{rowOf}
+use Rattle.admission.specs.Inside.Votes.{recordOf}
+use Rattle.order.specs.Inside.Rows.{rowOf}
 use Rattle.judging.proofs.rows.sound_row.Statement.{statement}
 use Rattle.judging.proofs.rows.sound_row.Tie as tie
 

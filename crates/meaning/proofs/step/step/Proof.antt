@@ -14,9 +14,9 @@ use Rattle.round.specs.Limits.{maxHeld}
 use Rattle.round.specs.Holdings.{graphOf, idAt, named, recordAt}
 use Rattle.roundbytes.specs.Layout.{referencesAt, roundIn}
 use Rattle.notes.specs.declared.Worked.{Worked}
-use Rattle.notes.specs.Layout.{wordNotes, byteNotes}
-use Rattle.meaning.specs.Records.{tableTo}
-use Rattle.meaning.specs.Notes.{Candidate, Told}
+use Rattle.notes.specs.Inside.Layout.{wordNotes, byteNotes}
+use Rattle.meaning.specs.Inside.Records.{tableTo}
+use Rattle.meaning.specs.Inside.Notes.{Candidate, Told}
 use Rattle.meaning.proofs.Working.{told}
 use Rattle.meaning.proofs.Passing.{lent-references, held-candidate, held-told}
 use Rattle.meaning.proofs.Walking.{covers-forks, covers-caught, covers-votes, covers-rivals, covers-backers}

@@ -5,7 +5,7 @@ use native.Mathlib.Numerals.{add-one}
 use lib.ListN.{length, getD, take, drop}
 use Rattle.base.specs.Bytes.{part, putAt}
 use Rattle.base.proofs.Bytes.{putAt-putAt, putAt-none}
-use Rattle.message.specs.Writer.{gathered}
+use Rattle.message.specs.Inside.Writing.{gathered}
 use Rattle.message.proofs.Gathers.{gathered-length}
 use borrow.Author.Needs.{needs}
 use native.Mathlib.Omega.{arith}

@@ -4,8 +4,8 @@ use mathlib.Core.Path.{_≡_, subst, _∙_}
 use Prim.Native.Nat.{ℕ, _+_}
 use lib.ListN.{length}
 use Rattle.base.specs.Bytes.{part}
-use Rattle.notes.specs.Layout.{keys}
-use Rattle.notes.specs.Index.{Filed}
+use Rattle.notes.specs.Inside.Layout.{keys}
+use Rattle.notes.specs.Inside.Index.{Filed}
 use borrow.Author.Needs.{needs}
 use native.Mathlib.Omega.{arith}
 

@@ -1,10 +1,10 @@
 use mathlib.Core.Path.{sym, subst}
 use Prim.Native.Nat.{ℕ}
 use lib.ListN.{getD}
-use Rattle.places.specs.PlaceSets.{inSet}
+use Rattle.places.specs.Inside.PlaceSets.{inSet}
 use Rattle.places.proofs.Membership.{in-both}
-use Rattle.notes.specs.Layout.{wordNotes}
-use Rattle.notes.specs.Index.{Filed}
+use Rattle.notes.specs.Inside.Layout.{wordNotes}
+use Rattle.notes.specs.Inside.Index.{Filed}
 use borrow.Author.Needs.{needs}
 use Rattle.notes.proofs.index.peers_of.Statement.{statement}
 use Rattle.notes.proofs.index.peers_of.Tie as tie

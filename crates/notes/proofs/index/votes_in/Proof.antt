@@ -1,5 +1,5 @@
 use mathlib.Core.Path.{sym, transport}
-use Rattle.places.specs.PlaceSets.{inSet}
+use Rattle.places.specs.Inside.PlaceSets.{inSet}
 use lib.Dec.{T}
 use borrow.Author.Needs.{needs}
 use Rattle.notes.proofs.index.votes_in.Statement.{statement}

@@ -2,11 +2,11 @@ use mathlib.Core.Path.{sym, subst, transport}
 use lib.Dec.{T}
 use Prim.Native.Nat.{ℕ}
 use lib.ListN.{getD}
-use Rattle.places.specs.PlaceSets.{inSet}
+use Rattle.places.specs.Inside.PlaceSets.{inSet}
 use Rattle.places.proofs.Membership.{in-both}
-use Rattle.notes.specs.Layout.{wordNotes, secondForm}
-use Rattle.notes.specs.Index.{Filed}
-use Rattle.notes.specs.Index.{formKey}
+use Rattle.notes.specs.Inside.Layout.{wordNotes, secondForm}
+use Rattle.notes.specs.Inside.Index.{Filed}
+use Rattle.notes.specs.Inside.Index.{formKey}
 use borrow.Author.Needs.{needs}
 use Rattle.notes.proofs.index.walks_for.Statement.{statement}
 use Rattle.notes.proofs.index.walks_for.Tie as tie

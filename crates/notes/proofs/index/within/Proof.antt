@@ -1,7 +1,7 @@
 use mathlib.Core.Path.{ap₂, _∙_}
 use mathlib.Core.Bool.{_&&_}
 use Prim.Native.Nat.{ℕ}
-use Rattle.places.specs.PlaceSets.{inSet}
+use Rattle.places.specs.Inside.PlaceSets.{inSet}
 use borrow.Author.Needs.{needs}
 use Rattle.notes.proofs.index.within.Statement.{statement}
 use Rattle.notes.proofs.index.within.Tie as tie

@@ -4,7 +4,7 @@ use mathlib.Core.Path.{_≡_}
 use lib.ListN.{length, length-set}
 use Prim.Native.Nat.{_+_}
 use Rattle.base.specs.Bytes.{part}
-use Rattle.notes.specs.Layout.{keys, keyLowAt}
+use Rattle.notes.specs.Inside.Layout.{keys, keyLowAt}
 use Rattle.notes.proofs.Lending.{filed, key-long}
 use borrow.Author.Needs.{needs}
 use native.Mathlib.Omega.{arith}

@@ -10,7 +10,7 @@ use lib.Seq.{getD-take}
 use Rattle.base.specs.Bytes.{part}
 use Rattle.base.proofs.Bytes.{part-length}
 use Rattle.base.proofs.Cuts.{cut, oneInto, cut-set, getD-part}
-use Rattle.places.specs.PlaceSets.{inSet, Grown}
+use Rattle.places.specs.Inside.PlaceSets.{inSet, Grown}
 use Rattle.places.proofs.Indexing.{put-here, put-grown}
 use borrow.Author.Needs.{needs}
 use Rattle.places.proofs.sets.put_place.Statement.{statement}

@@ -2,7 +2,7 @@ use mathlib.Core.Path.{ap, sym, _∙_}
 use mathlib.Core.Bool.{Bool, _&&_, _||_}
 use Prim.Native.Nat.{_-_}
 use lib.Dec.{eqb}
-use Rattle.places.specs.PlaceSets.{inSet}
+use Rattle.places.specs.Inside.PlaceSets.{inSet}
 use Rattle.places.proofs.Membership.{with-low, with-high}
 use borrow.Author.Tests.{not-true, not-false}
 use borrow.Author.Needs.{needs}

@@ -19,7 +19,7 @@ use Rattle.round.specs.Handed.{fits}
 use Rattle.round.specs.Delivery.{Result, refused, taken, delivery}
 use Rattle.roundbytes.specs.Layout.{roundLen, roundIn}
 use Rattle.engine.specs.Calls.{deliverAnswer, replyTo}
-use Rattle.round_samples.specs.Calls.{blank, blanks, outcomeCode, leftBy, differingIn}
+use Rattle.round_samples.specs.Calls.{blank, blanks, outcomeIn64, leftBy, differingIn}
 use borrow.Author.Needs.{needs}
 use Rattle.round_samples.proofs.calls.cramped.Statement.{statement}
 use Rattle.round_samples.proofs.calls.cramped.Tie as tie
@@ -92,15 +92,15 @@ returns c =
     let z = nothing-written (a .round .bytes) (a .bytes .now) (c .before .before .before .before .before .before .before .before .before .before .short .result) (c .before .before .before .before .before .before .deliver .last .1 .1 .0) (c .before .before .before .before .before .before .before .before .before .before .short .ensures) (c .before .before .before .before .before .before .deliver .ensures .1 .1) in
     absurd (c .if1 .taken (c .before .differing .ensures ∙ z))
 
-outcome-code-requires : tie.Need-outcome-code-requires
-outcome-code-requires c κs = search needs
+outcome-number-requires : tie.Need-outcome-number-requires
+outcome-number-requires c κs = search needs
 
 returns-2 : tie.Need-returns-2
 returns-2 c =
     let a = c .before .before .before .before .before .before .before .before .before .before .before .before .before .args in
-    c .outcome-code .ensures
+    c .outcome-number .ensures
     ∙ ap
-    (λ (o : Outcome). outcomeCode o)
+    (λ (o : Outcome). outcomeIn64 o)
     (c .before .before .before .before .before .before .before .deliver .ensures .0 ∙ refused-so (a .round .bytes) (a .bytes .now) (c .before .before .before .before .before .before .before .before .before .before .before .short .result) [] (c .before .before .before .before .before .before .before .before .before .before .before .short .ensures))
 
 pub cramped-spec : {M : Type 1} → statement M
@@ -115,5 +115,5 @@ cramped-spec =
     slice-aggregate-differing-2
     differing-requires
     returns
-    outcome-code-requires
+    outcome-number-requires
     returns-2)

@@ -3,7 +3,7 @@ use mathlib.Core.List.{List}
 use Prim.Native.Nat.{ℕ}
 use Rattle.round.specs.declared.Outcome.{Outcome}
 use Rattle.engine.specs.Calls.{deliverAnswer, deliverTo, replyTo}
-use Rattle.round_samples.specs.Calls.{outcomeCode}
+use Rattle.round_samples.specs.Calls.{outcomeIn64}
 use borrow.Author.Needs.{needs}
 use Rattle.round_samples.proofs.calls.given.Statement.{statement}
 use Rattle.round_samples.proofs.calls.given.Tie as tie
@@ -20,15 +20,15 @@ slice-aggregate-deliver-2 c = search needs
 deliver-requires : tie.Need-deliver-requires
 deliver-requires c κs = search needs
 
-outcome-code-requires : tie.Need-outcome-code-requires
-outcome-code-requires c κs = search needs
+outcome-number-requires : tie.Need-outcome-number-requires
+outcome-number-requires c κs = search needs
 
 returns : tie.Need-returns
 returns c =
     let a = c .before .before .before .before .before .before .before .before .before .args in
     let e = c .before .before .before .before .before .before .before .blank .ensures in
     let f = c .before .before .before .deliver .ensures in (
-      c .outcome-code .ensures ∙ ap (λ (o : Outcome). outcomeCode o) (f .0 ∙ ap (λ (l : List ℕ). deliverAnswer (a .round .bytes) (a .bytes .now) l) e),
+      c .outcome-number .ensures ∙ ap (λ (o : Outcome). outcomeIn64 o) (f .0 ∙ ap (λ (l : List ℕ). deliverAnswer (a .round .bytes) (a .bytes .now) l) e),
       (
         f .1 .0 ∙ ap (λ (l : List ℕ). deliverTo (a .round .bytes) (a .bytes .now) l) e,
         f .1 .1 ∙ ap (λ (l : List ℕ). replyTo (a .round .bytes) (a .bytes .now) l) e,
@@ -43,5 +43,5 @@ given-spec =
     slice-aggregate-deliver
     slice-aggregate-deliver-2
     deliver-requires
-    outcome-code-requires
+    outcome-number-requires
     returns)

@@ -3,7 +3,7 @@ use mathlib.Core.List.{List}
 use Prim.Native.Nat.{ℕ}
 use Rattle.round.specs.declared.Opening.{Opening}
 use Rattle.engine.specs.Calls.{openAnswer}
-use Rattle.round_samples.specs.Calls.{openingCode}
+use Rattle.round.specs.Answers.{openingNumber}
 use borrow.Author.Needs.{needs}
 use Rattle.round_samples.proofs.calls.opening.Statement.{statement}
 use Rattle.round_samples.proofs.calls.opening.Tie as tie
@@ -33,7 +33,7 @@ returns : tie.Need-returns
 returns c =
     let a = c .before .before .before .before .before .before .before .args in
     ap
-    (λ (o : Opening). openingCode o)
+    (λ (o : Opening). openingNumber o)
     (sym (c .enum-told .given .1) ∙ c .before .before .before .«open» .ensures .0 ∙ ap (λ (l : List ℕ). openAnswer (a .file .now) 1 12 (a .own) l) (c .before .before .before .before .before .fresh .ensures))
 
 returns-2 : tie.Need-returns-2
@@ -41,7 +41,7 @@ returns-2 c =
     let a = c .before .before .before .before .before .before .before .before .before .args in
     c .number .ensures
     ∙ ap
-    (λ (o : Opening). openingCode o)
+    (λ (o : Opening). openingNumber o)
     (sym (c .before .before .r .given .1) ∙ c .before .before .before .before .before .«open» .ensures .0 ∙ ap (λ (l : List ℕ). openAnswer (a .file .now) 1 12 (a .own) l) (c .before .before .before .before .before .before .before .fresh .ensures))
 
 pub opening-spec : {M : Type 1} → statement M

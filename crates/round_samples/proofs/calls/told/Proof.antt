@@ -41,7 +41,7 @@ returns-3 c = ap (λ (v : Report). verdictOf v) (sym (c .before .ballot2 .given 
 
 returns-4 : tie.Need-returns-4
 returns-4 c =
-    ap (λ (k : ℕ). record { code = k; least = 0; other = 0 }) (c .number .ensures)
+    ap (λ (k : ℕ). record { number = k; state = 0; least = 0; other = 0 }) (c .number .ensures)
     ∙ ap (λ (v : Report). verdictOf v) (sym (c .before .before .r .given .1) ∙ c .before .before .before .before .report .ensures)
 
 pub told-spec : {M : Type 1} → statement M

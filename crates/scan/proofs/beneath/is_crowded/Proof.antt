@@ -4,8 +4,8 @@ use Rattle.base.specs.Tests.{any, below}
 use Rattle.places.proofs.Loops.{any-again, any-next, any-done}
 use Rattle.places.proofs.Walks.{Left, walk-begun, walked-on}
 use Rattle.roundbytes.specs.Layout.{roundIn}
-use Rattle.notes.specs.Layout.{wordNotes, byteNotes}
-use Rattle.scan.specs.Arrays.{isCrowding}
+use Rattle.notes.specs.Inside.Layout.{wordNotes, byteNotes}
+use Rattle.scan.specs.Inside.Arrays.{isCrowding}
 use borrow.Author.Needs.{needs}
 use native.Mathlib.Omega.{arith}
 use Rattle.scan.proofs.beneath.is_crowded.Statement.{statement}

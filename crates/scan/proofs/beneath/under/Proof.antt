@@ -7,13 +7,13 @@ use lib.ListN.{length, getD, take}
 use lib.Seq.{take-all}
 use Rattle.base.specs.Tests.{any}
 use Rattle.message.specs.Layout.{proposalKind}
-use Rattle.places.specs.PlaceSets.{inSet}
+use Rattle.places.specs.Inside.PlaceSets.{inSet}
 use Rattle.places.proofs.Loops.{any-take}
 use Rattle.places.proofs.Membership.{in-zero, in-or}
 use Rattle.round.specs.Holdings.{isProposalAt}
 use Rattle.roundbytes.specs.Layout.{roundIn}
-use Rattle.notes.specs.Layout.{wordNotes}
-use Rattle.scan.specs.Arrays.{Beneath, highest}
+use Rattle.notes.specs.Inside.Layout.{wordNotes}
+use Rattle.scan.specs.Inside.Arrays.{Beneath, highest}
 use Rattle.scan.proofs.Highest.{highest-take}
 use borrow.Author.Needs.{needs}
 use native.Mathlib.Omega.{arith}

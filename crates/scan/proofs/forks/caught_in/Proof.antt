@@ -10,8 +10,8 @@ use Rattle.places.proofs.Membership.{has-zero}
 use Rattle.places.proofs.Walks.{Left, walk-begun, walked-on}
 use Rattle.round.specs.Holdings.{signerAt}
 use Rattle.roundbytes.specs.Layout.{roundIn}
-use Rattle.notes.specs.Layout.{wordNotes}
-use Rattle.scan.specs.Arrays.{isCaught}
+use Rattle.notes.specs.Inside.Layout.{wordNotes}
+use Rattle.scan.specs.Inside.Arrays.{isCaught}
 use borrow.Author.Needs.{needs}
 use native.Mathlib.Omega.{arith}
 use Rattle.scan.proofs.forks.caught_in.Statement.{statement}

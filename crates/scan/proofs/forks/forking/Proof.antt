@@ -4,13 +4,13 @@ use Prim.Native.Nat.{ℕ, _+_, _<_, _-_}
 use lib.Dec.{eqb}
 use Rattle.base.specs.Tests.{any, below}
 use Rattle.base.proofs.Tests.{and-l}
-use Rattle.places.specs.PlaceSets.{inSet}
+use Rattle.places.specs.Inside.PlaceSets.{inSet}
 use Rattle.places.proofs.Loops.{put-again, any-next, any-done}
 use Rattle.places.proofs.Membership.{in-zero}
 use Rattle.places.proofs.Walks.{Left, walk-begun, walked-on}
 use Rattle.roundbytes.specs.Layout.{roundIn}
-use Rattle.notes.specs.Layout.{byteNotes}
-use Rattle.scan.specs.Arrays.{isFork}
+use Rattle.notes.specs.Inside.Layout.{byteNotes}
+use Rattle.scan.specs.Inside.Arrays.{isFork}
 use borrow.Author.Needs.{needs}
 use native.Mathlib.Omega.{arith}
 use Rattle.scan.proofs.forks.forking.Statement.{statement}

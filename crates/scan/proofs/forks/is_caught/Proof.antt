@@ -1,6 +1,6 @@
 use mathlib.Core.Path.{ap₂, _∙_}
 use mathlib.Core.Bool.{_&&_}
-use Rattle.places.specs.PlaceSets.{meets}
+use Rattle.places.specs.Inside.PlaceSets.{meets}
 use borrow.Author.Needs.{needs}
 use Rattle.scan.proofs.forks.is_caught.Statement.{statement}
 use Rattle.scan.proofs.forks.is_caught.Tie as tie

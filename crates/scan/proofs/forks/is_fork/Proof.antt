@@ -4,7 +4,7 @@ use Prim.Native.Nat.{ℕ}
 use lib.Dec.{eqb}
 use lib.ListN.{getD}
 use Rattle.message.specs.Layout.{proposalKind}
-use Rattle.notes.specs.Layout.{byteNotes}
+use Rattle.notes.specs.Inside.Layout.{byteNotes}
 use borrow.Author.Needs.{needs}
 use Rattle.scan.proofs.forks.is_fork.Statement.{statement}
 use Rattle.scan.proofs.forks.is_fork.Tie as tie

@@ -1,7 +1,7 @@
 use mathlib.Core.Path.{sym, ap}
 use Prim.Native.Nat.{ℕ, _%_}
 use lib.ListN.{List·getD-eq-default}
-use Rattle.notes.specs.Layout.{idKeys}
+use Rattle.notes.specs.Inside.Layout.{idKeys}
 use borrow.Author.Needs.{needs}
 use Rattle.scan.proofs.names.id_key.Statement.{statement}
 use Rattle.scan.proofs.names.id_key.Tie as tie

@@ -4,7 +4,7 @@ use borrow.Author.Count.{below-more}
 use Rattle.places.proofs.Membership.{other}
 use Rattle.places.proofs.Walks.{Left, walk-begun, walked-on}
 use Rattle.roundbytes.specs.Layout.{roundIn}
-use Rattle.notes.specs.Layout.{wordNotes}
+use Rattle.notes.specs.Inside.Layout.{wordNotes}
 use Rattle.scan.proofs.Naming.{lent, Unnamed, passed}
 use borrow.Author.Needs.{needs}
 use native.Mathlib.Omega.{arith}

@@ -4,12 +4,12 @@ use Prim.Native.Nat.{ℕ, _*_, _%_}
 use lib.Dec.{T}
 use lib.ListN.{getD}
 use Rattle.message.specs.Layout.{idLen}
-use Rattle.places.specs.PlaceSets.{inSet}
+use Rattle.places.specs.Inside.PlaceSets.{inSet}
 use Rattle.places.proofs.Indexing.{indexed-more}
 use Rattle.roundbytes.specs.Layout.{roundIn}
 use Rattle.roundbytes.proofs.Fields.{id-byte-at}
-use Rattle.notes.specs.Layout.{idKeys, wordNotes}
-use Rattle.scan.specs.Arrays.{Lowest, idKey}
+use Rattle.notes.specs.Inside.Layout.{idKeys, wordNotes}
+use Rattle.scan.specs.Inside.Arrays.{Lowest, idKey}
 use Rattle.scan.proofs.Naming.{lent}
 use borrow.Author.Needs.{needs}
 use native.Mathlib.Omega.{arith}

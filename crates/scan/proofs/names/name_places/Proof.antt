@@ -2,10 +2,10 @@ use mathlib.Core.Path.{_≡_, ap, subst, _∙_}
 use Prim.Native.Nat.{ℕ, _-_, _≤_}
 use Rattle.round.specs.Limits.{noPlace}
 use Rattle.roundbytes.specs.Layout.{roundIn}
-use Rattle.notes.specs.Layout.{wordNotes, byteNotes, Lent}
-use Rattle.notes.specs.Writing.{withName}
+use Rattle.notes.specs.Inside.Layout.{wordNotes, byteNotes, Lent}
+use Rattle.notes.specs.Inside.Writing.{withName}
 use Rattle.notes.proofs.Fields.{byte-rooms}
-use Rattle.scan.specs.Arrays.{NamedAll}
+use Rattle.scan.specs.Inside.Arrays.{NamedAll}
 use Rattle.scan.proofs.Naming.{all-begun, all-more, all-since}
 use borrow.Author.Needs.{needs}
 use native.Mathlib.Omega.{arith}

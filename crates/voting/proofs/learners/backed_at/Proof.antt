@@ -4,8 +4,8 @@ use Prim.Native.Nat.{ℕ}
 use lib.Dec.{eqb}
 use lib.ListN.{getD}
 use Rattle.base.specs.Sets.{has}
-use Rattle.notes.specs.Layout.{wordNotes, byteNotes}
-use Rattle.places.specs.PlaceSets.{inSet}
+use Rattle.notes.specs.Inside.Layout.{wordNotes, byteNotes}
+use Rattle.places.specs.Inside.PlaceSets.{inSet}
 use Rattle.places.proofs.Membership.{has-zero, other}
 use borrow.Author.Needs.{needs}
 use Rattle.voting.proofs.learners.backed_at.Statement.{statement}

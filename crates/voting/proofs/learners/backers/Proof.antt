@@ -8,11 +8,11 @@ use Rattle.base.specs.Sets.{has}
 use Rattle.base.proofs.Tests.{and-l}
 use Rattle.round.specs.Holdings.{signerAt}
 use Rattle.roundbytes.specs.Layout.{roundIn}
-use Rattle.notes.specs.Layout.{wordNotes, byteNotes}
+use Rattle.notes.specs.Inside.Layout.{wordNotes, byteNotes}
 use Rattle.places.proofs.Membership.{has-zero}
 use Rattle.places.proofs.Walks.{Left, walk-begun, walked-on}
 use Rattle.places.proofs.Loops.{put-again, any-next, any-done}
-use Rattle.voting.specs.Votes.{isBacker, backedBy}
+use Rattle.voting.specs.Inside.Votes.{isBacker, backedBy}
 use borrow.Author.Needs.{needs}
 use native.Mathlib.Omega.{arith}
 use Rattle.voting.proofs.learners.backers.Statement.{statement}

@@ -5,9 +5,9 @@ use lib.ListN.{getD}
 use Rattle.base.specs.Tests.{any, below}
 use Rattle.base.proofs.Tests.{and-l}
 use Rattle.roundbytes.specs.Layout.{roundIn}
-use Rattle.notes.specs.Layout.{wordNotes, byteNotes}
+use Rattle.notes.specs.Inside.Layout.{wordNotes, byteNotes}
 use Rattle.voting.specs.declared.Peaks.{Peaks}
-use Rattle.voting.specs.Votes.{isBuried, isOpposed, isRival}
+use Rattle.voting.specs.Inside.Votes.{isBuried, isOpposed, isRival}
 use Rattle.voting.proofs.Burying.{no-rival}
 use borrow.Author.Needs.{needs}
 use Rattle.voting.proofs.learners.bars.Statement.{statement}

@@ -2,10 +2,10 @@ use mathlib.Core.Path.{_≡_, _∙_}
 use Prim.Native.Nat.{_-_}
 use Rattle.base.specs.Tests.{any, below}
 use Rattle.roundbytes.specs.Layout.{roundIn}
-use Rattle.notes.specs.Layout.{wordNotes, byteNotes}
+use Rattle.notes.specs.Inside.Layout.{wordNotes, byteNotes}
 use Rattle.places.proofs.Walks.{Left, walk-begun, walked-on}
 use Rattle.places.proofs.Loops.{any-again, any-next, any-done}
-use Rattle.voting.specs.Votes.{isOpposed}
+use Rattle.voting.specs.Inside.Votes.{isOpposed}
 use borrow.Author.Needs.{needs}
 use native.Mathlib.Omega.{arith}
 use Rattle.voting.proofs.learners.is_barred.Statement.{statement}

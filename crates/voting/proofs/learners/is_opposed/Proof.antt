@@ -2,7 +2,7 @@ use mathlib.Core.Path.{ap, _∙_}
 use mathlib.Core.Bool.{not, _&&_}
 use lib.Dec.{eqb}
 use Rattle.base.specs.Ballots.{valueOf}
-use Rattle.voting.specs.Votes.{isBuried}
+use Rattle.voting.specs.Inside.Votes.{isBuried}
 use borrow.Author.Needs.{needs}
 use Rattle.voting.proofs.learners.is_opposed.Statement.{statement}
 use Rattle.voting.proofs.learners.is_opposed.Tie as tie

@@ -10,10 +10,10 @@ use Rattle.graph.specs.LearnerGraph.{isQuorum}
 use Rattle.graph.proofs.LearnerGraph.{quorum-cong}
 use Rattle.round.specs.Holdings.{graphOf}
 use Rattle.roundbytes.specs.Layout.{roundIn}
-use Rattle.notes.specs.Layout.{wordNotes, byteNotes}
+use Rattle.notes.specs.Inside.Layout.{wordNotes, byteNotes}
 use Rattle.places.proofs.Membership.{has-zero}
 use Rattle.places.proofs.Loops.{put-again, any-done, any-none}
-use Rattle.voting.specs.Votes.{backedBy}
+use Rattle.voting.specs.Inside.Votes.{backedBy}
 use borrow.Author.Needs.{needs}
 use native.Mathlib.Omega.{arith}
 use Rattle.voting.proofs.learners.learners_for.Statement.{statement}

@@ -6,10 +6,10 @@ use Rattle.base.specs.Tests.{any, below}
 use Rattle.base.specs.Sets.{has}
 use Rattle.base.proofs.Tests.{and-l}
 use Rattle.roundbytes.specs.Layout.{roundIn}
-use Rattle.notes.specs.Layout.{wordNotes, byteNotes}
+use Rattle.notes.specs.Inside.Layout.{wordNotes, byteNotes}
 use Rattle.places.proofs.Membership.{has-zero}
 use Rattle.places.proofs.Loops.{put-again, any-done, any-none}
-use Rattle.voting.specs.Votes.{isBarred}
+use Rattle.voting.specs.Inside.Votes.{isBarred}
 use Rattle.voting.proofs.Burying.{no-rival}
 use borrow.Author.Needs.{needs}
 use native.Mathlib.Omega.{arith}

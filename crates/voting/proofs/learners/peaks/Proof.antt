@@ -2,9 +2,9 @@ use mathlib.Core.Path.{_≡_, sym, ap, ap₂, _∙_}
 use Prim.Native.Nat.{_-_}
 use native.Mathlib.Numerals.{add-one}
 use lib.ListN.{getD}
-use Rattle.notes.specs.Layout.{wordNotes, byteNotes}
+use Rattle.notes.specs.Inside.Layout.{wordNotes, byteNotes}
 use Rattle.places.proofs.Walks.{Left, walk-begun, walked-on}
-use Rattle.voting.specs.Votes.{isVote, voteBallot, raised, peaksOf}
+use Rattle.voting.specs.Inside.Votes.{isVote, voteBallot, raised, peaksOf}
 use Rattle.voting.proofs.Burying.{peaks-next}
 use borrow.Author.Needs.{needs}
 use native.Mathlib.Omega.{arith}

@@ -4,7 +4,7 @@ use Prim.Native.Nat.{ℕ}
 use lib.Dec.{eqb, ltb}
 use borrow.Author.Tests.{lt-ltb, le-ltb, eq-eqb, ne-eqb}
 use Rattle.base.specs.Ballots.{valueOf}
-use Rattle.voting.specs.Votes.{raised}
+use Rattle.voting.specs.Inside.Votes.{raised}
 use borrow.Author.Needs.{needs}
 use Rattle.voting.proofs.learners.raise.Statement.{statement}
 use Rattle.voting.proofs.learners.raise.Tie as tie

@@ -4,11 +4,11 @@ use Rattle.base.specs.Tests.{any, below}
 use Rattle.base.specs.Sets.{has}
 use Rattle.base.proofs.Sets.{has-or}
 use Rattle.roundbytes.specs.Layout.{roundIn}
-use Rattle.notes.specs.Layout.{wordNotes, byteNotes}
+use Rattle.notes.specs.Inside.Layout.{wordNotes, byteNotes}
 use Rattle.places.proofs.Membership.{has-zero}
 use Rattle.places.proofs.Walks.{Left, walk-begun, walked-on}
 use Rattle.places.proofs.Loops.{any-again, any-next, any-done}
-use Rattle.voting.specs.Votes.{isRival}
+use Rattle.voting.specs.Inside.Votes.{isRival}
 use borrow.Author.Needs.{needs}
 use native.Mathlib.Omega.{arith}
 use Rattle.voting.proofs.learners.rivals.Statement.{statement}

@@ -6,8 +6,8 @@ use lib.ListN.{getD}
 use Rattle.base.specs.Sets.{has}
 use Rattle.base.specs.Ballots.{valueOf}
 use Rattle.roundbytes.specs.Layout.{roundIn}
-use Rattle.notes.specs.Layout.{wordNotes, byteNotes}
-use Rattle.places.specs.PlaceSets.{inSet}
+use Rattle.notes.specs.Inside.Layout.{wordNotes, byteNotes}
+use Rattle.places.specs.Inside.PlaceSets.{inSet}
 use Rattle.places.proofs.Membership.{has-zero, other}
 use borrow.Author.Needs.{needs}
 use Rattle.voting.proofs.learners.rivals_at.Statement.{statement}

@@ -2,7 +2,7 @@ use mathlib.Core.Path.{sym, ap, _∙_}
 use mathlib.Core.Bool.{Bool}
 use lib.ListN.{getD}
 use Rattle.base.specs.Tests.{pick}
-use Rattle.notes.specs.Layout.{wordNotes}
+use Rattle.notes.specs.Inside.Layout.{wordNotes}
 use borrow.Author.Needs.{needs}
 use Rattle.voting.proofs.learners.vote_ballot.Statement.{statement}
 use Rattle.voting.proofs.learners.vote_ballot.Tie as tie

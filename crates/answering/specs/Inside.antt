@@ -1,0 +1,2 @@
+-- What the steps of a delivery give
+pub mod Giving

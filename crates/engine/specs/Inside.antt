@@ -1,0 +1,2 @@
+-- A message that is taken and enters
+pub mod Entering

@@ -1,0 +1,2 @@
+-- The steps of reading and writing a file
+pub mod Steps

@@ -1,0 +1,2 @@
+-- Writing an acceptor message
+pub mod Writing

@@ -1,0 +1,2 @@
+-- The definitions at a place of a table
+pub mod Places

@@ -1,0 +1,2 @@
+-- What a write in place leaves as it was
+pub mod Keeping

@@ -1,0 +1,2 @@
+-- What is asked of each place, and the names of the places
+pub mod Arrays
