@@ -25,10 +25,10 @@ static uint32_t answered(const char *what, const uint8_t *message, size_t len, u
     return say(what, answer, HPAXOS_REPLIED + expected) - HPAXOS_REPLIED;
 }
 
-/* A message to the vent computer, which has no reply. */
-static void heard(const char *what, const uint8_t *message, size_t len) {
+/* A message that has no reply, to either of them. */
+static void heard(uint8_t *round, const char *what, const uint8_t *message, size_t len) {
     uint8_t none[HPAXOS_REPLY_BYTES];
-    say(what, hpaxos_deliver(vent_computer, sizeof vent_computer, message, len, none, sizeof none), HPAXOS_ACCEPTED);
+    say(what, hpaxos_deliver(round, HPAXOS_ROUND_BYTES, message, len, none, sizeof none), HPAXOS_ACCEPTED);
 }
 
 int main(void) {
@@ -41,12 +41,13 @@ int main(void) {
     say("round number 5, vents at 70", hpaxos_write_proposal(1, 12, 0, 5, 70, proposal, sizeof proposal), HPAXOS_ACCEPTED);
     uint32_t first_len = answered("the controller answers, 256 + 43 bytes", proposal, sizeof proposal, first, 43);
     uint32_t second_len = answered("its own answer returns, 256 + 75 bytes", first, first_len, second, 75);
+    heard(controller, "its vote returns and is not voted on", second, second_len);
 
-    heard("the vent computer hears the proposal", proposal, sizeof proposal);
-    heard("and the first vote", first, first_len);
+    heard(vent_computer, "the vent computer hears the proposal", proposal, sizeof proposal);
+    heard(vent_computer, "and the first vote", first, first_len);
     say("the page is asked", hpaxos_report(vent_computer, sizeof vent_computer, 0, page, sizeof page), HPAXOS_ACCEPTED);
     say("nothing is agreed yet", page[0], HPAXOS_UNDECIDED);
-    heard("the second vote", second, second_len);
+    heard(vent_computer, "the second vote", second, second_len);
     say("the page is asked again", hpaxos_report(vent_computer, sizeof vent_computer, 0, page, sizeof page), HPAXOS_ACCEPTED);
     say("agreed", page[0], HPAXOS_DECIDED);
     say("value, the last of the ballot's eight bytes", page[8], 70);

@@ -29,7 +29,7 @@ enum hpaxos_answer {
     HPAXOS_REFERENCE = 11,    /* a reference not known: deliver that message first */
     HPAXOS_PREVIOUS = 12,     /* previous message not referred to, a proposal, or of another signer */
     HPAXOS_MALFORMED_1B = 14, /* 1b not well-formed */
-    HPAXOS_MALFORMED_2A = 15, /* 2a not well-formed */
+    HPAXOS_MALFORMED_2A = 15, /* 2a not well-formed: for no learner, or for just those of the 2a of its ballot that it names as previous */
     HPAXOS_FULL = 16,         /* the round holds as many messages as it can */
     HPAXOS_ARGUMENT = 17,     /* a lent buffer too short, a number that the graph lacks, no n-th reference, or a round with a count or place out of bounds */
 

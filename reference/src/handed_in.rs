@@ -110,20 +110,23 @@ mod tests {
     use super::*;
     use crate::layout::{opened, write_delivery};
     use crate::message::{proposal, write, LONGEST};
-    use crate::round::{open, Step};
+    use crate::round::open;
     use crate::{graph, sites::g0};
 
     #[test]
     fn a_running_round_is_taken_as_it_is() {
         let mut round = open(&graph::write(&g0()), 1, 12, Some(0)).expect("G0 opens");
         let mut bytes = opened(&round);
-        let mut next = write(&proposal(1, 12, 0, 5, 70));
-        for _ in 0..20 {
-            assert_eq!(take(&bytes), Ok(round.clone()));
-            let delivery = round.deliver(&next, LONGEST).expect("a reply returns");
-            write_delivery(&mut bytes, &round, &delivery);
-            let Step::Replied(reply) = delivery.step else { panic!("G0's acceptor replies") };
-            next = reply;
+        for number in 1..=7 {
+            let mut next = Some(write(&proposal(1, 12, 0, number, 70)));
+            while let Some(message) = next {
+                assert_eq!(take(&bytes), Ok(round.clone()));
+                let delivery = round.deliver(&message, LONGEST).expect("a reply returns");
+                write_delivery(&mut bytes, &round, &delivery);
+                next = delivery.reply();
+            }
+            // Of each ballot a proposal, a 1b and a 2a, which is not voted on.
+            assert_eq!(round.held(), 3 * number as usize);
         }
     }
 

@@ -1,8 +1,8 @@
 //! Models of the consensus library, written from FIPS 180-4, the report of
-//! 4 December 2024 (source document 001) and document 01 alone. The program
-//! beside them compares the library with these models. november.rs is written
-//! from the report's text of 19 November 2024 (source document 000), and is
-//! compared with meaning.rs.
+//! 4 December 2024 (source document 001) and documents 01 and 02 alone. The
+//! program beside them compares the library with these models. november.rs is
+//! written from the report's text of 19 November 2024 (source document 000), and
+//! is compared with meaning.rs.
 
 pub mod damage;
 pub mod fields;

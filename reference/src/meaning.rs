@@ -1,6 +1,7 @@
 //! Document 01, "What a message means", and section 3.4 of the report of
 //! 4 December 2024: each definition as it is written, over the messages of a
-//! round, each worked out once for each place.
+//! round, each worked out once for each place. Well-formed 2as are those of
+//! section 3.7, as request 1 of document 02 has it.
 
 use crate::graph::{LearnerGraph, Mask};
 use crate::sha256::Id;
@@ -113,6 +114,13 @@ impl History {
             Content::Proposal { .. } => None,
             Content::Acceptor { previous, .. } => previous.as_ref(),
         }
+    }
+
+    /// "a distinguished reference, x.prev": the reference whose id is the previous
+    /// id. None where the message names no previous one, or refers to none of that id.
+    pub fn previous_message(&self, m: Place) -> Option<Place> {
+        let named = self.previous(m)?;
+        self.references(m).iter().copied().find(|y| self.id(*y) == named)
     }
 
     pub fn is_proposal(&self, m: Place) -> bool {
@@ -244,6 +252,14 @@ impl History {
         self.lrns[m][a]
     }
 
+    pub fn has_learners(&self, m: Place) -> bool {
+        self.lrns[m].contains(&true)
+    }
+
+    pub fn same_learners(&self, x: Place, y: Place) -> bool {
+        self.lrns[x] == self.lrns[y]
+    }
+
     /// Definition 20. "A 1b is well-formed if every other message of its Tran
     /// with its ballot is a proposal."
     pub fn is_well_formed_1b(&self, m: Place) -> bool {
@@ -252,8 +268,120 @@ impl History {
         })
     }
 
-    /// "A 2a is well-formed if lrns is not empty."
+    /// Definition 23. "A 2a is well-formed if lrns is not empty"; and, by request 1
+    /// of document 02, "A 2a whose previous message is a 2a of the same ballot is
+    /// well-formed only if its lrns is not empty and differs from that one's."
     pub fn is_well_formed_2a(&self, m: Place) -> bool {
-        self.lrns[m].contains(&true)
+        let votes_again = self.previous_message(m).is_some_and(|x| {
+            self.is_2a(x) && self.ballot(x) == self.ballot(m) && self.same_learners(x, m)
+        });
+        self.has_learners(m) && !votes_again
+    }
+}
+
+#[cfg(test)]
+mod tests {
+    use super::*;
+
+    const BALLOT: u64 = 5 << 32 | 70;
+    const HIGHER: u64 = 6 << 32 | 70;
+
+    // Where the messages of `voted` stand.
+    const P: Place = 0;
+    const FIRST_OF_0: Place = 1;
+    const FIRST_OF_1: Place = 2;
+    const VOTE: Place = 3;
+    const FIRST_AGAIN: Place = 5;
+    const MUTE: Place = 6;
+    const ABOVE: Place = 7;
+
+    /// The id of a message of these tests: its place in all bytes.
+    fn id(place: Place) -> Id {
+        [place as u8; 32]
+    }
+
+    fn hold(history: &mut History, signer: u8, content: Content) -> Place {
+        history.push(Held { id: id(history.len()), signer, content })
+    }
+
+    fn vote(history: &mut History, signer: u8, previous: Option<Place>, refs: &[Place]) -> Place {
+        let content = Content::Acceptor { previous: previous.map(id), references: refs.to_vec() };
+        hold(history, signer, content)
+    }
+
+    /// Acceptor 0 is a quorum of learner 0, and 0 and 1 together are one of learner 1.
+    /// Both promised, and 0 voted for learner 0; then both promised a higher ballot.
+    /// The promises of 1 alone are behind no learner, as its 2a shows.
+    fn voted() -> History {
+        let quorums = vec![vec![1], vec![3]];
+        let mut history =
+            History::new(LearnerGraph { acceptors: 2, quorums, edges: vec![vec![1]; 3] });
+        let h = &mut history;
+        assert_eq!(hold(h, 9, Content::Proposal { ballot: BALLOT }), P);
+        assert_eq!(vote(h, 0, None, &[P]), FIRST_OF_0);
+        assert_eq!(vote(h, 1, None, &[P]), FIRST_OF_1);
+        assert_eq!(vote(h, 0, Some(FIRST_OF_0), &[FIRST_OF_0]), VOTE);
+        let higher = hold(h, 9, Content::Proposal { ballot: HIGHER });
+        assert_eq!(vote(h, 0, Some(VOTE), &[VOTE, higher]), FIRST_AGAIN);
+        assert_eq!(vote(h, 1, Some(FIRST_OF_1), &[FIRST_OF_1]), MUTE);
+        assert_eq!(vote(h, 1, Some(FIRST_OF_1), &[FIRST_OF_1, higher]), ABOVE);
+        history
+    }
+
+    /// The learners of one more message of these, a 2a, and whether it is well-formed.
+    fn asked(signer: u8, previous: Option<Place>, refs: &[Place]) -> ([bool; 2], bool) {
+        let mut history = voted();
+        let m = vote(&mut history, signer, previous, refs);
+        assert!(history.is_2a(m), "a 2a is asked about");
+        ([history.in_lrns(0, m), history.in_lrns(1, m)], history.is_well_formed_2a(m))
+    }
+
+    #[test]
+    fn a_2a_follows_a_1b() {
+        let history = voted();
+        assert_eq!((history.ballot(VOTE), history.in_lrns(0, VOTE)), (BALLOT, true));
+        assert!(history.is_2a(VOTE) && history.is_well_formed_2a(VOTE));
+        assert!(history.is_1b(FIRST_AGAIN) && history.is_well_formed_1b(FIRST_AGAIN));
+        // The vote lies beneath, but the message names the 1b.
+        assert_eq!(asked(0, Some(FIRST_OF_0), &[FIRST_OF_0, VOTE]), ([true, false], true));
+    }
+
+    #[test]
+    fn a_repeated_vote_is_not_well_formed() {
+        assert_eq!(asked(0, Some(VOTE), &[VOTE]), ([true, false], false));
+        // More beneath it, and no other learners for all that.
+        assert_eq!(asked(0, Some(VOTE), &[FIRST_OF_0, VOTE]), ([true, false], false));
+    }
+
+    #[test]
+    fn a_vote_with_more_learners_is_well_formed() {
+        assert_eq!(asked(0, Some(VOTE), &[FIRST_OF_1, VOTE]), ([true, true], true));
+        // The one before it has no learner, as only a round handed in can hold it.
+        assert_eq!(asked(1, Some(MUTE), &[FIRST_OF_0, MUTE]), ([true, true], true));
+    }
+
+    #[test]
+    fn the_same_learners_in_another_ballot_are_well_formed() {
+        assert_eq!((voted().ballot(VOTE), voted().ballot(FIRST_AGAIN)), (BALLOT, HIGHER));
+        assert_eq!(asked(0, Some(VOTE), &[VOTE, FIRST_AGAIN]), ([true, false], true));
+    }
+
+    #[test]
+    fn a_repeated_vote_that_names_none_is_well_formed() {
+        assert_eq!(asked(0, None, &[VOTE]), ([true, false], true));
+    }
+
+    #[test]
+    fn a_previous_message_that_is_no_reference_adds_nothing() {
+        assert_eq!(asked(0, Some(VOTE), &[FIRST_OF_0]), ([true, false], true));
+    }
+
+    #[test]
+    fn a_vote_for_nobody_is_not_well_formed() {
+        for previous in [None, Some(FIRST_OF_1), Some(MUTE)] {
+            assert_eq!(asked(1, previous, &[FIRST_OF_1, MUTE]), ([false, false], false));
+        }
+        // Nor in a higher ballot after a vote for somebody.
+        assert_eq!(asked(0, Some(VOTE), &[VOTE, ABOVE]), ([false, false], false));
     }
 }

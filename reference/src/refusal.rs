@@ -29,7 +29,7 @@ pub enum Refusal {
     Previous = 12,
     /// 1b not well-formed.
     Malformed1b = 14,
-    /// 2a not well-formed.
+    /// 2a not well-formed. "15 also covers the repeated vote".
     Malformed2a = 15,
     /// Full.
     Full = 16,

@@ -53,6 +53,18 @@ impl Delivery {
     }
 }
 
+/// Is shown what the rules ask about, while it stands behind all that the round holds.
+pub trait Watch {
+    /// A message that arrives and that rows 8 to 12 let through.
+    fn arriving(&mut self, _round: &Round, _m: Place) {}
+
+    /// What an acceptor would reply.
+    fn replying(&mut self, _round: &Round, _z: Place) {}
+}
+
+/// Nobody watches.
+impl Watch for () {}
+
 #[derive(Clone, Copy, Debug, PartialEq, Eq)]
 pub enum Report {
     Undecided,
@@ -111,12 +123,22 @@ impl Round {
 
     /// Delivers message bytes, with room for `room` bytes of reply.
     pub fn deliver(&mut self, bytes: &[u8], room: usize) -> Result<Delivery, Refusal> {
+        self.deliver_watched(bytes, room, &mut ())
+    }
+
+    pub fn deliver_watched(
+        &mut self,
+        bytes: &[u8],
+        room: usize,
+        watch: &mut impl Watch,
+    ) -> Result<Delivery, Refusal> {
         if room < LONGEST {
             return Err(Refusal::Argument);
         }
         let message = message::read(bytes)?;
         let (candidate, awaiting) = self.admit(&message, sha256(bytes))?;
         let m = self.history.push(candidate);
+        watch.arriving(self, m);
         let accepted = self.check_meaning(m).and_then(|()| self.check_capacity(m, awaiting));
         if accepted.is_err() || awaiting.is_some() {
             self.history.pop();
@@ -128,7 +150,7 @@ impl Round {
         }
         let place = awaiting.unwrap_or(m);
         self.known[place] = true;
-        let step = self.own.map_or(Step::Kept, |own| self.answer(own, place));
+        let step = self.own.map_or(Step::Kept, |own| self.answer(own, place, watch));
         Ok(Delivery { place, returned: awaiting.is_some(), step })
     }
 
@@ -200,7 +222,7 @@ impl Round {
 
     /// "An acceptor then forms z with its last sent message as previous and the
     /// references recent ∪ {m}." Figure 1, lines 14 to 20.
-    fn answer(&mut self, own: u8, m: Place) -> Step {
+    fn answer(&mut self, own: u8, m: Place, watch: &mut impl Watch) -> Step {
         let id_at = |place: Place| self.history.messages()[place].id;
         let previous = self.last_sent.map(id_at);
         let chosen = (0..self.held()).filter(|place| *place == m || self.recent[*place]);
@@ -215,6 +237,7 @@ impl Round {
         let reply =
             message::write(&Message { house: self.house, bay: self.bay, signer: own, body });
         let z = self.history.push(Held { id: sha256(&reply), signer: own, content });
+        watch.replying(self, z);
         let well_formed = if self.history.is_1b(z) {
             self.history.is_well_formed_1b(z)
         } else {
@@ -258,5 +281,58 @@ impl Round {
         };
         let other = ballots.iter().copied().filter(|ballot| *ballot as u32 != least as u32).min();
         Ok(other.map_or(Report::Decided(least), |other| Report::Split(least, other)))
+    }
+}
+
+#[cfg(test)]
+mod tests {
+    use super::*;
+    use crate::sites::g0;
+
+    /// A round under G0 that holds a proposal, a 1b and a 2a of its acceptor, the last
+    /// sent, under these ids; recent has the 2a or nothing.
+    fn voted(ids: [Id; 3], in_recent: bool) -> Round {
+        let mut round = open(&graph::write(&g0()), 1, 12, Some(0)).expect("G0 opens");
+        let [_, first, _] = ids;
+        let contents = [
+            Content::Proposal { ballot: 5 << 32 | 70 },
+            Content::Acceptor { previous: None, references: vec![0] },
+            Content::Acceptor { previous: Some(first), references: vec![1] },
+        ];
+        for (id, content) in ids.into_iter().zip(contents) {
+            round.history.push(Held { id, signer: 0, content });
+        }
+        round.known = vec![true; 3];
+        round.recent = vec![false, false, in_recent];
+        round.last_sent = Some(2);
+        round
+    }
+
+    /// What becomes of a 2a that names no previous message and refers to the one of this id.
+    fn step(mut round: Round, id: Id) -> Step {
+        let body = Body::Acceptor { previous: None, references: vec![id] };
+        let vote = message::write(&Message { house: 1, bay: 12, signer: 0, body });
+        round.deliver(&vote, LONGEST).expect("a 2a for learner 0").step
+    }
+
+    const APART: [Id; 3] = [[1; 32], [2; 32], [3; 32]];
+
+    #[test]
+    fn a_reply_that_only_repeats_last_sent_is_not_sent() {
+        assert_eq!(step(voted(APART, true), APART[1]), Step::Joined);
+    }
+
+    #[test]
+    fn last_sent_that_the_reply_does_not_refer_to_adds_nothing() {
+        assert!(matches!(step(voted(APART, false), APART[1]), Step::Replied(_)));
+        // It refers to the message, which leads to last sent: that is no reference.
+        assert!(matches!(step(voted(APART, false), APART[2]), Step::Replied(_)));
+    }
+
+    #[test]
+    fn an_id_held_twice_names_the_lower_place() {
+        // Last sent has the id of the 1b: that one is the reply's previous message.
+        let twice = [[1; 32], [2; 32], [2; 32]];
+        assert!(matches!(step(voted(twice, true), twice[1]), Step::Replied(_)));
     }
 }

@@ -142,6 +142,13 @@ pub fn majority_of_three() -> LearnerGraph {
     LearnerGraph { acceptors: 3, quorums: vec![vec![3, 5, 6]; 2], edges }
 }
 
+/// Each learner needs one acceptor more than the one before, and all rely on the first:
+/// so a vote comes to have more learners step by step.
+pub fn stairs(steps: usize) -> LearnerGraph {
+    let quorums = (1..=steps).map(|acceptors| vec![everyone(acceptors)]).collect();
+    LearnerGraph { acceptors: steps, quorums, edges: vec![vec![1]; steps * (steps + 1) / 2] }
+}
+
 /// The largest file: 16 acceptors, 8 learners, all lists of eight.
 pub fn largest() -> LearnerGraph {
     let list: Vec<Mask> = (0..8).rev().map(|one| !(1 << one)).collect();

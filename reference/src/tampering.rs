@@ -77,6 +77,28 @@ fn disturb_id(random: &mut Random, bytes: &mut [u8]) {
     }
 }
 
+/// Another place as last sent, last sent not in recent, or its id held twice.
+pub fn disturb_last(random: &mut Random, bytes: &mut [u8]) {
+    let last = LAST.number(bytes, 0) as usize;
+    match random.below(5) {
+        1 | 2 if last < CAPACITY => RECENT.put(bytes, last, 0),
+        3 | 4 if last < CAPACITY => repeat_id(random, bytes, last),
+        _ => disturb(random, bytes, LAST, 0),
+    }
+}
+
+/// The id of a place at a lower one, too, mostly at one of the same signer.
+fn repeat_id(random: &mut Random, bytes: &mut [u8], place: usize) {
+    let signer = SIGNERS.number(bytes, place);
+    let of_anyone = random.once_in(4);
+    let lower = (0..place).filter(|k| of_anyone || SIGNERS.number(bytes, *k) == signer);
+    let lower: Vec<usize> = lower.collect();
+    if !lower.is_empty() {
+        let id = IDS.entry(bytes, place).to_vec();
+        IDS.entry_mut(bytes, *random.pick(&lower)).copy_from_slice(&id);
+    }
+}
+
 /// Mostly a number about 256, which stands for none, or one that only its upper byte
 /// tells from an acceptor's.
 fn disturb_own(random: &mut Random, bytes: &mut [u8]) {
@@ -108,7 +130,7 @@ pub fn damage(random: &mut Random, bytes: &mut [u8]) {
         6 | 7 => disturb_reference(random, bytes),
         8 | 9 => disturb_id(random, bytes),
         10 => disturb(random, bytes, HELD, 0),
-        11 => disturb(random, bytes, LAST, 0),
+        11 => disturb_last(random, bytes),
         12 => disturb_own(random, bytes),
         13 => {
             let field = *random.pick(&[ACCEPTORS, LEARNERS, HOUSE, BAY]);

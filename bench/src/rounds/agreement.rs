@@ -1,5 +1,6 @@
 //! Before rounds are timed: the contestants answer alike on random traffic, in
-//! listening and voting rounds, with forks, damage, repetition and disorder.
+//! listening and voting rounds, with forks, damage, repetition, repeated votes and
+//! disorder.
 
 use super::cases::Case;
 use super::notes::check_peaks;
@@ -7,14 +8,42 @@ use super::site::{opened, Site, BAY, HOUSE};
 use super::table::Bytes;
 use super::twin::{self, REPLIED, REPORT_LEN};
 use reference::graph::{self, LearnerGraph};
-use reference::message::LONGEST;
+use reference::message::{self, Body, LONGEST};
 use reference::random::Random;
 use reference::refusal::Refusal;
 use reference::round::{self, Delivery, Round};
+use reference::sha256::sha256;
 use reference::{damage, library, sites};
 
-const SITES: usize = 60;
+const SITES: usize = 100;
 const BALLOTS: usize = 9;
+/// How often each kind of case must be met.
+const LEAST: usize = 100;
+
+/// What the contestants agreed on, so that no kind of case is lost from the traffic.
+#[derive(Default)]
+struct Met {
+    promises_sent: usize,
+    votes_sent: usize,
+    votes_taken: usize,
+    repeated_votes: usize,
+}
+
+impl Met {
+    fn assert_enough(&self) {
+        let Met { promises_sent, votes_sent, votes_taken, repeated_votes } = *self;
+        for (what, count) in [
+            ("a 1b as a reply", promises_sent),
+            ("a 2a as a reply", votes_sent),
+            ("a 2a accepted", votes_taken),
+            ("a repeated vote turned down", repeated_votes),
+        ] {
+            assert!(count >= LEAST, "{what} only {count} times");
+        }
+    }
+}
+
+type Answer = Result<Option<Vec<u8>>, Refusal>;
 
 /// A round of each contestant.
 struct Contestants {
@@ -23,7 +52,7 @@ struct Contestants {
     model: Round,
 }
 
-fn number(outcome: &Result<Option<Vec<u8>>, Refusal>) -> u32 {
+fn number(outcome: &Answer) -> u32 {
     match outcome {
         Ok(None) => 0,
         Ok(Some(reply)) => REPLIED + reply.len() as u32,
@@ -44,8 +73,8 @@ impl Contestants {
         Contestants { library, twin, model: case.modelled() }
     }
 
-    /// Delivers to all of them and gives the reply.
-    fn deliver(&mut self, message: &[u8]) -> Option<Vec<u8>> {
+    /// Delivers to all of them and gives what all of them answer.
+    fn deliver(&mut self, message: &[u8]) -> Answer {
         let expected = self.model.deliver(message, LONGEST).map(Delivery::reply);
         let mut replies = [[0x5a; LONGEST]; 2];
         let [first, second] = &mut replies;
@@ -54,13 +83,19 @@ impl Contestants {
             twin::deliver(&mut self.twin[..], message, second),
         ];
         assert_eq!(answers, [number(&expected); 2], "the contestants differ");
-        let reply = expected.ok().flatten();
         let mut buffer = [0x5a; LONGEST];
-        let written = reply.as_deref().unwrap_or(&[]);
-        buffer[..written.len()].copy_from_slice(written);
+        if let Ok(Some(reply)) = &expected {
+            buffer[..reply.len()].copy_from_slice(reply);
+        }
         assert!(replies == [buffer; 2], "the contestants' replies differ");
         assert!(self.library == self.twin, "the contestants' rounds differ");
-        reply
+        expected
+    }
+
+    /// Whether a message is held and is a 2a.
+    fn holds_vote(&self, bytes: &[u8]) -> bool {
+        let place = self.model.place_of(&sha256(bytes));
+        place.is_some_and(|place| self.model.history.is_2a(place))
     }
 
     fn report(&self, learner: u8) {
@@ -98,21 +133,68 @@ fn traffic(random: &mut Random, graph: &LearnerGraph) -> Vec<Vec<u8>> {
     messages
 }
 
-/// One round of a site: all of the traffic, with damaged copies and returning replies.
-fn follow(random: &mut Random, graph: &LearnerGraph, messages: &[Vec<u8>], own: Option<u8>) {
-    let mut contestants = Contestants::open(graph, own);
+/// A vote once more: it refers to that one alone, and names it or none.
+fn repeated(vote: &[u8], naming: bool) -> Vec<u8> {
+    let mut message = message::read(vote).expect("a vote");
+    let id = sha256(vote);
+    message.body = Body::Acceptor { previous: naming.then_some(id), references: vec![id] };
+    message::write(&message)
+}
+
+/// One round that takes the traffic of a site.
+struct Follower<'a> {
+    random: &'a mut Random,
+    met: &'a mut Met,
+    contestants: Contestants,
+}
+
+impl Follower<'_> {
+    fn take(&mut self, message: &[u8]) {
+        let outcome = self.contestants.deliver(message);
+        let is_vote = self.contestants.holds_vote(message);
+        self.met.votes_taken += usize::from(outcome.is_ok() && is_vote);
+        if let Ok(Some(reply)) = outcome {
+            self.take_back(&reply);
+        }
+        if is_vote && self.random.once_in(4) {
+            let again = repeated(message, self.random.below(4) > 0);
+            let refused = self.contestants.deliver(&again) == Err(Refusal::Malformed2a);
+            self.met.repeated_votes += usize::from(refused);
+        }
+        if self.random.once_in(8) {
+            let mut damaged = message.to_vec();
+            damage::message(self.random, &mut damaged);
+            let _ = self.contestants.deliver(&damaged);
+        }
+    }
+
+    /// A reply mostly returns.
+    fn take_back(&mut self, reply: &[u8]) {
+        let is_vote = self.contestants.holds_vote(reply);
+        let sent = if is_vote { &mut self.met.votes_sent } else { &mut self.met.promises_sent };
+        *sent += 1;
+        if self.random.below(4) > 0 {
+            let _ = self.contestants.deliver(reply);
+        }
+    }
+}
+
+/// One round of a site: all of the traffic, with repeated votes, damaged copies and
+/// returning replies.
+fn follow(
+    random: &mut Random,
+    met: &mut Met,
+    graph: &LearnerGraph,
+    messages: &[Vec<u8>],
+    own: Option<u8>,
+) {
+    let contestants = Contestants::open(graph, own);
+    let mut follower = Follower { random, met, contestants };
     for message in messages {
-        let reply = contestants.deliver(message);
-        if let Some(reply) = reply.filter(|_| random.below(4) > 0) {
-            contestants.deliver(&reply);
-        }
-        if random.once_in(8) {
-            let mut damaged = message.clone();
-            damage::message(random, &mut damaged);
-            contestants.deliver(&damaged);
-        }
-        if random.once_in(4) {
-            contestants.report(random.below(graph.learners() + 1) as u8);
+        follower.take(message);
+        if follower.random.once_in(4) {
+            let learner = follower.random.below(graph.learners() + 1);
+            follower.contestants.report(learner as u8);
         }
     }
 }
@@ -121,18 +203,20 @@ fn follow(random: &mut Random, graph: &LearnerGraph, messages: &[Vec<u8>], own: 
 pub fn assert_alike(case: &Case) {
     let mut contestants = Contestants::at(case);
     contestants.report(0);
-    contestants.deliver(&case.message);
+    let _ = contestants.deliver(&case.message);
 }
 
 pub fn check() {
     let mut random = Random::new(20_241_204);
     check_peaks(&mut random);
+    let mut met = Met::default();
     for _ in 0..SITES {
         let graph = sites::accepted_graph(&mut random);
         let messages = traffic(&mut random, &graph);
         let own = random.below(graph.acceptors) as u8;
         for own in [None, Some(own)] {
-            follow(&mut random, &graph, &messages, own);
+            follow(&mut random, &mut met, &graph, &messages, own);
         }
     }
+    met.assert_enough();
 }

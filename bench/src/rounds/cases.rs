@@ -1,21 +1,22 @@
 //! The rounds that are timed, of several sizes, each with the message that comes
 //! next; found in the traffic of sites.
 
-use super::site::{Seat, Sent, Site};
+use super::site::{Seat, Sent, Site, BAY, HOUSE};
 use super::table::Bytes;
 use reference::graph::LearnerGraph;
 use reference::handed_in;
-use reference::message::PROPOSAL;
+use reference::message::{self, PROPOSAL};
 use reference::random::Random;
 use reference::round::{Round, CAPACITY};
 
 /// How many messages a round holds; the last is the most that still takes one more.
 const LISTENING: [usize; 4] = [8, 32, 64, 127];
 /// An acceptor keeps a place for its reply.
-const VOTING: [usize; 4] = [8, 32, 64, 126];
+const VOTING: [usize; 4] = [8, 32, 64, MOST_OF_VOTING];
+const MOST_OF_VOTING: usize = CAPACITY - 2;
 
 /// How many sites are searched for a case.
-const SEEDS: u64 = 20;
+const SEEDS: u64 = 30;
 
 /// What is timed.
 #[derive(Clone, Copy, PartialEq)]
@@ -107,33 +108,88 @@ fn listening_case(graph: &LearnerGraph, site: &Site, size: usize, task: Task) ->
     })
 }
 
-/// A round that votes, holds `size` messages and answers one of another acceptor.
-fn voting_case(graph: &LearnerGraph, seat: &Seat, size: usize) -> Option<Case> {
-    let mut follower = Seat::open(graph, seat.own);
-    seat.heard.iter().find_map(|message| {
-        let (before, bytes) = (follower.held(), follower.round.clone());
-        let replied = follower.deliver(message).is_some() && message[3] != PROPOSAL;
-        let fits = replied && (before, follower.held()) == (size, size + 2);
-        fits.then(|| Case { bytes, message: message.clone() })
-    })
+/// A message that a seat heard and answered, though it was neither a proposal nor its own.
+struct Answered {
+    /// How many messages it heard before.
+    heard: usize,
+    /// How many fewer than the size it held then.
+    missing: usize,
 }
 
-/// A site with more messages than a round holds.
-fn busy_site(graph: &LearnerGraph, seed: u64) -> Site {
+/// The last that a seat answered while it held no more messages than the size.
+fn last_answered(graph: &LearnerGraph, seat: &Seat, size: usize) -> Option<Answered> {
+    let mut follower = Seat::open(graph, seat.own);
+    let mut last = None;
+    for (heard, message) in seat.heard.iter().enumerate() {
+        let before = follower.held();
+        if before > size {
+            break;
+        }
+        follower.deliver(message);
+        if message[3] != PROPOSAL && follower.held() == before + 2 {
+            last = Some(Answered { heard, missing: size - before });
+        }
+    }
+    last
+}
+
+/// A proposal below all ballots of the traffic: it is held, but not answered.
+fn late_proposal(proposer: usize) -> Vec<u8> {
+    message::write(&message::proposal(HOUSE, BAY, proposer as u8, 1, 0))
+}
+
+/// The round in which a seat answered a message, with `size` messages held: late
+/// proposals take the places that are missing.
+fn voting_case(graph: &LearnerGraph, seat: &Seat, answered: &Answered, size: usize) -> Case {
+    let (before, message) = (&seat.heard[..answered.heard], &seat.heard[answered.heard]);
+    let late: Vec<Vec<u8>> = (0..answered.missing).map(late_proposal).collect();
+    let mut follower = Seat::open(graph, seat.own);
+    for message in before.iter().chain(&late) {
+        follower.deliver(message);
+    }
+    assert_eq!(follower.held(), size, "late proposals are held");
+    let bytes = follower.round.clone();
+    assert!(follower.deliver(message).is_some(), "it is answered after late proposals, too");
+    Case { bytes, message: message.clone() }
+}
+
+/// A site with more messages than a round holds, or whose rounds all hold more than `most`.
+fn busy_site(graph: &LearnerGraph, seed: u64, most: usize) -> Site {
     let mut random = Random::new(seed);
     let mut site = Site::open(graph, 0..graph.acceptors as u8);
-    let is_full = |seat: &Seat| seat.held() >= CAPACITY - 1;
-    while site.log.len() < 2 * CAPACITY && !site.seats.iter().all(is_full) {
+    let is_past = |seat: &Seat| seat.held() > most;
+    while site.log.len() < 2 * CAPACITY && !site.seats.iter().all(is_past) {
         site.ballot(&mut random, false);
     }
     site
 }
 
+/// An acceptor votes but once for the same learners in a ballot, so few rounds of just
+/// this size answer a vote. Where no site has one, the one that comes nearest is taken.
+fn find_answer(graph: &LearnerGraph, size: usize) -> Option<Case> {
+    let mut nearest: Option<(usize, Case)> = None;
+    for seed in 1..=SEEDS {
+        for seat in &busy_site(graph, seed, size).seats {
+            let Some(answered) = last_answered(graph, seat, size) else {
+                continue;
+            };
+            if nearest.as_ref().is_none_or(|(missing, _)| answered.missing < *missing) {
+                nearest = Some((answered.missing, voting_case(graph, seat, &answered, size)));
+            }
+        }
+        if nearest.as_ref().is_some_and(|(missing, _)| *missing == 0) {
+            break;
+        }
+    }
+    nearest.map(|(_, case)| case)
+}
+
 /// A case for the task at the size.
 pub fn find(task: Task, graph: &LearnerGraph, size: usize) -> Case {
-    let in_site = |site: Site| match task {
-        Task::Answer => site.seats.iter().find_map(|seat| voting_case(graph, seat, size)),
-        _ => listening_case(graph, &site, size, task),
+    let in_site = |seed| listening_case(graph, &busy_site(graph, seed, MOST_OF_VOTING), size, task);
+    let found = match task {
+        Task::Answer => find_answer(graph, size),
+        _ => (1..=SEEDS).find_map(in_site),
     };
-    (1..=SEEDS).find_map(|seed| in_site(busy_site(graph, seed))).expect("traffic with such a case")
+    found.expect("traffic with such a case")
 }

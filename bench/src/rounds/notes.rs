@@ -169,17 +169,6 @@ pub struct Note {
     pub crowded: bool,
 }
 
-impl Note {
-    /// Rows 14 and 15.
-    pub fn fault(&self) -> Option<u32> {
-        match self.form {
-            FIRST if self.crowded => Some(14),
-            SECOND if self.learners == 0 => Some(15),
-            _ => None,
-        }
-    }
-}
-
 pub struct Notes {
     quorums: Quorums,
     acceptors: u32,
@@ -303,6 +292,26 @@ impl Notes {
             _ => self.backed(beneath & self.firsts_of[usize::from(peak)]),
         };
         Note { beneath, ballot, peak, form, learners, crowded }
+    }
+
+    /// Rows 14 and 15 on a message that was worked out.
+    pub fn fault(&self, candidate: &Candidate, note: &Note) -> Option<u32> {
+        match note.form {
+            FIRST if note.crowded => Some(14),
+            SECOND if note.learners == 0 || self.repeats(candidate, note) => Some(15),
+            _ => None,
+        }
+    }
+
+    /// Whether a 2a names one of its references as its previous message that is a 2a of
+    /// the same ballot and learners. References are lowest places of their ids, as links
+    /// are; a message without a link names no place.
+    fn repeats(&self, candidate: &Candidate, note: &Note) -> bool {
+        let previous = candidate.link;
+        candidate.references.contains(&(previous as u8))
+            && self.forms[previous] == SECOND
+            && self.ballots[previous] == note.ballot
+            && self.learners[previous] == note.learners
     }
 
     /// The learners for whom the signers of those of the 1bs that are fresh are a quorum.

@@ -97,8 +97,7 @@ impl Site {
     }
 
     /// Hands a message to a seat that was not handed it yet, after all that it refers
-    /// to. A 1b returns at once; a 2a would be answered by the next one, for ever.
-    /// Gives the replies.
+    /// to. A reply returns at once. Gives the replies.
     fn hand(&mut self, seat: usize, place: usize) -> Vec<usize> {
         let mut replies = Vec::new();
         if !self.handed.insert((seat, place)) {
@@ -110,9 +109,7 @@ impl Site {
         if let Some(reply) = self.seats[seat].deliver(&self.log[place].bytes) {
             let reply = self.send(reply);
             replies.push(reply);
-            if self.log[place].is_proposal() {
-                replies.extend(self.hand(seat, reply));
-            }
+            replies.extend(self.hand(seat, reply));
         }
         replies
     }

@@ -137,7 +137,7 @@ fn take_vote(
     let candidate = Candidate { references, signer, name: at, link: names.link(previous) };
     let mut notes = Notes::new(&table, &names);
     let note = notes.work_out(&table, &candidate);
-    if let Some(row) = note.fault() {
+    if let Some(row) = notes.fault(&candidate, &note) {
         return Err(row);
     }
     if is_full(&table, at.is_some()) {
@@ -209,12 +209,12 @@ fn is_sent(
     note: &Note,
 ) -> bool {
     if note.form != FIRST || !note.crowded {
-        return note.fault().is_none();
+        return notes.fault(candidate, note).is_none();
     }
     let mut scratch = [0; LONGEST];
     let len = write(table, candidate.references, &mut scratch);
     candidate.name = names.find(table.ids(), &sha256(&scratch[..len]));
-    notes.work_out(table, candidate).fault().is_none()
+    notes.fault(candidate, &notes.work_out(table, candidate)).is_none()
 }
 
 /// The reply to the message at a place, or none.

@@ -8,6 +8,7 @@ use lib.Dec.{T}
 use lib.Seq.{take-at}
 use mathlib.Core.Bool.{Bool, true, false, _&&_}
 use borrow.Author.Tests.{le-ltb, lt-ltb}
+use Rattle.protocol.specs.WellFormed.{wellFormed}
 use Rattle.round.specs.Round.{Round}
 use Rattle.round.proofs.Fitting.{Fitting}
 use Rattle.holding.specs.declared.reply.Reply.{Reply}
@@ -112,7 +113,7 @@ process-voting H r p x before after h g =
 
 -- z is sent where it is well-formed as a 1b and as a 2a
 pub sent-judged : (r : Round) (m : Message) (x : Note) → Judged (graphOf r) m x → (x .formed1b && x .formed2a) ≡ isSent r m
-unfolding isSent
+unfolding isSent wellFormed
 sent-judged r m x j = λ k. j .formed1 k && j .formed2 k
 
 -- ---- bytes that are written one step after the other

@@ -1,17 +1,17 @@
 -- Laws of sets as masks: what containing and having none in common say. Set operations on masks meet `has` bit by bit.
 use mathlib.Core.Path.{_≡_, sym, ap, _∙_, subst}
-use mathlib.Core.Bool.{Bool, not, _&&_, _||_}
-use Prim.Native.Nat.{ℕ, _-_, _/_, _%_, _^_, _<_, min}
-use native.Mathlib.Nat.{mod-lt, div-eq-of-lt, lt-of-le-of-lt}
-use native.Mathlib.Decide.{decLt}
+use mathlib.Core.Bool.{Bool, not, _&&_, _||_, Bool·beq}
+use Prim.Native.Nat.{ℕ, _+_, _-_, _/_, _%_, _^_, _<_, min}
+use native.Mathlib.Nat.{mod-lt, div-eq-of-lt, lt-of-le-of-lt, lt-of-lt-of-le}
+use native.Mathlib.Decide.{decLt, ℕ-discrete}
 use native.Mathlib.Omega.{arith}
 use lib.Bits.{bitAnd, bitOr, and-comm, or-lt, and-le-l}
 use lib.Pow.{pow-pos, pow-mono, ones-lt}
 use lib.Dec.{T, eqb, eqb→eq, T-not, not-T}
-use Rattle.base.specs.Tests.{below}
+use Rattle.base.specs.Tests.{all, below}
 use Rattle.base.specs.Sets.{has, contains, apart}
-use Rattle.base.proofs.Tests.{same-test, eq→eqb, neqb→ne, and-l, and-r, and-in, or-l, or-r, or-out, imp-in, imp-out, all-in, all-out, all-cong, below-in, below-out}
-use Rattle.base.proofs.Bits.{bit, and-bit, bit-of-or, or-of-bit, not-bit, high-bit, bit-of-pow, pow-of-bit, every-of-and, and-of-every}
+use Rattle.base.proofs.Tests.{same-test, same-beq, beq-same, eq→eqb, neqb→ne, and-l, and-r, and-in, or-l, or-r, or-out, imp-in, imp-out, all-in, all-out, all-cong, below-in, below-out}
+use Rattle.base.proofs.Bits.{bit, ext-below, below-pow, some-bit, and-bit, bit-of-or, or-of-bit, not-bit, high-bit, bit-of-pow, pow-of-bit, every-of-and, and-of-every}
 use mathlib.Core.Logic.{_⊎_, inl, inr, _↔_}
 
 -- ---- membership in a union, an intersection
@@ -113,6 +113,40 @@ has-below k x p h t = step (decLt p k)
     step : Dec (p < k) → p < k
     step (yes l) = l
     step (no l) = let e = eqb→eq (bit x p) 1 t in let z = high-bit k x p h (omega arith) in absurd (omega arith)
+
+-- a mask that is not 0 has a member
+pub some-member : (x : ℕ) → T (not (eqb x 0)) → (p : ℕ) × T (has x p)
+unfolding has
+some-member x h = let (p, (l, e)) = some-bit x x (below-pow x) (neqb→ne x 0 h) in (p, eq→eqb e)
+
+-- two masks with the same members are one
+pub same-members : (x y : ℕ) → ((p : ℕ) → has x p ≡ has y p) → x ≡ y
+unfolding has
+same-members x y h =
+    let lx : x < 2 ^ (x + y) = lt-of-lt-of-le (below-pow x) (pow-mono (omega arith)) in
+    let ly : y < 2 ^ (x + y) = lt-of-lt-of-le (below-pow y) (pow-mono (omega arith)) in
+    ext-below (x + y) x y lx ly (λ p l. step (bit x p) (bit y p) (mod-lt (x / 2 ^ p) {m = 2} (omega arith)) (mod-lt (y / 2 ^ p) {m = 2} (omega arith)) (h p))
+  where
+    step : (a b : ℕ) → a < 2 → b < 2 → eqb a 1 ≡ eqb b 1 → a ≡ b
+    step a b la lb e = go (ℕ-discrete a 1)
+      where
+        go : Dec (a ≡ 1) → a ≡ b
+        go (yes p) = let q = eqb→eq b 1 (subst T e (eq→eqb p)) in omega arith
+        go (no p) = let q : b ≡ 1 → ⊥ = λ r. p (eqb→eq a 1 (subst T (sym e) (eq→eqb r))) in omega arith
+
+-- and where they have none from n on, it is enough to ask the numbers below n
+pub same-below : (n x y : ℕ) → ((p : ℕ) → T (has x p) → p < n) → ((p : ℕ) → T (has y p) → p < n) → eqb x y ≡ all (λ p. Bool·beq (has x p) (has y p)) (below n)
+same-below n x y hx hy = same-test _ _ to from
+  where
+    to : T (eqb x y) → T (all (λ p. Bool·beq (has x p) (has y p)) (below n))
+    to t = all-in _ _ (λ p m. same-beq (has x p) (has y p) (ap (λ (z : ℕ). has z p) (eqb→eq x y t)))
+
+    from : T (all (λ p. Bool·beq (has x p) (has y p)) (below n)) → T (eqb x y)
+    from t = eq→eqb (same-members x y (λ p. step p (decLt p n)))
+      where
+        step : (p : ℕ) → Dec (p < n) → has x p ≡ has y p
+        step p (yes l) = beq-same (has x p) (has y p) (all-out (λ p. Bool·beq (has x p) (has y p)) (below-in n l) t)
+        step p (no l) = same-test _ _ (λ h. absurd (l (hx p h))) (λ h. absurd (l (hy p h)))
 
 -- the mask of the numbers below n
 pub first-in : (n p : ℕ) → p < n → T (has (2 ^ n - 1) p)

@@ -1,7 +1,7 @@
 -- Laws of the tests over lists: what a passed test says, and how to pass one.
 use mathlib.Core.Path.{_≡_, refl, sym, ap, ap₂, _∙_, subst}
 use mathlib.Core.Logic.{_⊎_, inl, inr, _≢_}
-use mathlib.Core.Bool.{Bool, true, false, not, _&&_, _||_}
+use mathlib.Core.Bool.{Bool, true, false, not, _&&_, _||_, Bool·beq}
 use mathlib.Core.List.{List, [], _∷_, map, List·Memᴰ·head, List·Memᴰ·tail, Memᴰ·cast, List·Memᴰ·cases-cons}
 use Prim.Native.Nat.{ℕ, zero, suc, _+_, _-_, _≤_, _<_}
 use native.Mathlib.Omega.{arith}
@@ -56,6 +56,17 @@ same-test true true f g = refl
 same-test true false f g = absurd (f tt)
 same-test false true f g = absurd (g tt)
 same-test false false f g = refl
+
+-- `a == b` as a test
+pub same-beq : (a b : Bool) → a ≡ b → T (Bool·beq a b)
+same-beq true b e = subst (λ (c : Bool). T (Bool·beq true c)) e tt
+same-beq false b e = subst (λ (c : Bool). T (Bool·beq false c)) e tt
+
+pub beq-same : (a b : Bool) → T (Bool·beq a b) → a ≡ b
+beq-same true true h = refl
+beq-same true false h = absurd h
+beq-same false true h = absurd h
+beq-same false false h = refl
 
 pub not-true : (b : Bool) → T (not b) → b ≡ false
 not-true true h = absurd h

@@ -261,8 +261,8 @@ fn pages(s: Site) {
     tell_page(2, told(s.parties[5], 2));
 }
 
-// The traffic in three parts. Letters 5 to 7 are the 1bs of controllers 0, 1 and 2 in round 5; 8 to a their 2as, and b another of controller
-// 0; c and d the 1bs of controllers 2 and 1 in round 6.
+// The traffic in three parts, the first with what returns to controller 0. Letters 5 to 7 are the 1bs of controllers 0, 1 and 2 in round 5; 8 to a their
+// 2as, and b another of controller 0, for one grower more; c and d the 1bs of controllers 2 and 1 in round 6.
 fn main() {
     let file = plan();
     tell_plan(graphfile::check(&file));
@@ -274,17 +274,19 @@ fn main() {
         start(),
         b"\x00\x41\x10\x02\x43\x32\x20\x06\x17\x15\x56\x25\x26\x07\x30\x32\x50\x56\x55\x59\x52\x58\x57\x59",
     );
-    pages(s1);
+    tell::tell_returns();
+    let s2 = play(s1, b"\x05\x08\x0b");
+    pages(s2);
     io::write_all(
         1,
         b"\nRound 6 offers 40 percent, and controller 3 pushes it.\n",
     );
-    let s2 = play(s1, b"\x23\x21\x11\x23\x24\x16\x1a\x13\x1c");
+    let s3 = play(s2, b"\x23\x21\x11\x23\x24\x16\x1a\x13\x1c");
     tell::tell_no_vote();
-    let s3 = play(
-        s2,
+    let s4 = play(
+        s3,
         b"\x44\x49\x40\x47\x45\x46\x49\x4a\x4b\x42\x48\x4b\x36\x35\x37\x38\x3a\x39\x32\x51\x53",
     );
-    pages(s3);
+    pages(s4);
     tell::tell_why();
 }

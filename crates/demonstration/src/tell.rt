@@ -158,6 +158,14 @@ pub fn tell_page(grower: u64, r: Report) {
     }
 }
 
+// What comes next in the first part.
+pub fn tell_returns() {
+    io::write_all(
+        1,
+        b"What controller 0 sent returns to it. It has voted for every grower, so it has nothing to add.\n",
+    );
+}
+
 // What the second part showed, and what the third is.
 pub fn tell_no_vote() {
     io::write_all(

@@ -25,7 +25,7 @@ use Rattle.round.specs.Holdings.{named, isVoting, isKnown, placeOf}
 use Rattle.round.specs.Rows.{full, placed}
 use Rattle.round.specs.Limits.{maxHeld, listening, acceptorRoom, replyLen}
 use Rattle.round.proofs.Entering.{room-left, room-behind}
-use Rattle.round.specs.Demands.{Typed}
+use Rattle.round.specs.Premises.{Typed}
 use Rattle.round.proofs.Fitting.{Fitting, fits-in, fits-out}
 use Rattle.engine.specs.Inside.Entering.{Enterable, Enters}
 use Rattle.round.specs.Delivery.{returned, hold, enteredIn, enteredAt, Delivered, processed, entered}

@@ -27,7 +27,7 @@ use Rattle.round.specs.Round.{Round}
 use Rattle.round.specs.Holdings.{graphOf, idAt, recordAt}
 use Rattle.round.specs.Delivery.{hold, returned}
 use Rattle.round.specs.Limits.{maxHeld, noPlace}
-use Rattle.round.specs.Demands.{Typed}
+use Rattle.round.specs.Premises.{Typed}
 use Rattle.round.proofs.Parts.{tabulate-cong}
 use Rattle.round.proofs.Fitting.{Fitting, Keeps, record-kept}
 use Rattle.round.proofs.Holding.{Storable}

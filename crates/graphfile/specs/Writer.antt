@@ -1,7 +1,7 @@
 -- The graph file of a graph in memory: its bytes in the order in which File reads them, and what `write` answers.
 use mathlib.Core.Bool.{Bool, _&&_}
 use mathlib.Core.List.{List, [], _∷_, _++_}
-use Prim.Native.Nat.{ℕ, zero, suc, _^_, _≤_}
+use Prim.Native.Nat.{ℕ, zero, suc, _^_}
 use lib.Dec.{ltb, leb}
 use lib.ListN.{length, drop}
 use Rattle.base.specs.Tests.{pick, all}

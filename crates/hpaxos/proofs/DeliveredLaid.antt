@@ -27,7 +27,7 @@ use Rattle.round.specs.Handed.{fits}
 use Rattle.round.specs.Rows.{referenceIds, previousId, voteRecord, messageOf, proposalRows, acceptorRows, firstOf}
 use Rattle.round.specs.Reply.{replyBytes, replyRecord, isSent}
 use Rattle.round.specs.Delivery.{Result, refused, hold, returned, sent, joins, answered, processed, entered, decidedBy, taken, delivery, delivered}
-use Rattle.round.specs.Demands.{Typed}
+use Rattle.round.specs.Premises.{Typed}
 use Rattle.round.proofs.Step.{Same}
 use Rattle.round.proofs.Reached.{step-grows}
 use Rattle.round.proofs.OneDelivery.{step}

@@ -16,14 +16,19 @@ use Rattle.graph.specs.declared.Graph.{Graph}
 use Rattle.graph.specs.Memory.{viewOf}
 use Rattle.graphfile.specs.Arrays.{readingOf}
 use Rattle.message.specs.Writer.{fronted}
+use Rattle.protocol.specs.Message.{Message}
+use Rattle.protocol.specs.Votes.{Few}
 use Rattle.round.specs.Round.{Round}
 use Rattle.round.specs.declared.Opening.{Opening}
 use Rattle.round.specs.declared.Opening.the-variants as opening
 use Rattle.round.specs.Opening.{opened}
+use Rattle.round.specs.Delivery.{messageRead}
 use Rattle.round.specs.Answers.{openingNumber, Page}
 use Rattle.round.specs.Lists as rules
 use Rattle.round.specs.Lists.{Seen, accepted, written, pages}
-use Rattle.round.specs.Demands.{Starts, SafeEdge, NoCollision, OneValue, ChainFrom, SameCaughtIn, OneCaughtIn}
+use Rattle.round.specs.Premises.{Starts}
+use Rattle.round.specs.Neighbours.{SameCaughtIn, OneCaughtIn}
+use Rattle.round.specs.Demands.{SafeEdge, NoCollision, OneValue, ChainFrom}
 use Rattle.round.proofs.Answers.{row-number}
 use Rattle.round.proofs.JustOpened.{opened-round}
 use Rattle.round.proofs.Sha256.{sha256IsIdRule}
@@ -32,7 +37,7 @@ use Rattle.roundbytes.specs.Layout.{roundLen, roundBytes, roundIn}
 use Rattle.roundbytes.specs.Opening.{openedTo}
 use Rattle.engine.specs.Calls as call
 use Rattle.hpaxos.specs.Lists.{OpenedIn, Call, OfBytes, run, lastBytes, ruled}
-use Rattle.hpaxos.specs.Demands.{AgreementInBytes, ChainInBytes, DemandThreeInBytes, RoundInBytes, SameCaughtInBytes, OneCaughtListInBytes}
+use Rattle.hpaxos.specs.Demands.{AgreementInBytes, ChainInBytes, DemandThreeInBytes, RoundInBytes, SameCaughtInBytes, OneCaughtListInBytes, FewRepliesInBytes}
 use Rattle.hpaxos.proofs.Keeping.{Holds, opened-holds}
 use Rattle.hpaxos.proofs.Lists.{Says, AllSaid, Tells, tells, bytes-hold}
 
@@ -157,3 +162,16 @@ oneCaughtListInBytes fileA fileB house bay acceptorA acceptorB bA bB oA oB lA lB
     (subst (λ (y : Round). OneCaughtIn (rules.lastRound sha256 rA (map ruled lA)) y) (sym eB)
     (rounds.oneCaughtList sha256 sha256IsIdRule fileA fileB house bay acceptorA acceptorB rA rB (starts fileA house bay acceptorA bA oA) (starts fileB house bay acceptorB bB oB) (map ruled lA) (map ruled lB)
     (no-collision fileA fileB house bay acceptorA acceptorB bA bB oA oB lA lB sA sB free)))
+
+-- ---- how often our acceptor votes
+pub fewRepliesInBytes : FewRepliesInBytes
+fewRepliesInBytes file house bay acceptor b o l s free =
+    let r = round file house bay acceptor b o in
+    let t = told file house bay acceptor b o l s in
+    let votes : List Message = map (messageRead sha256 (roundIn (lastBytes b l))) (written (run b l)) in
+    let ruled-votes : List Message = map (messageRead sha256 (rules.lastRound sha256 r (map ruled l))) (written (rules.run sha256 r (map ruled l))) in
+    let same : votes ≡ ruled-votes = λ i. map (messageRead sha256 (roundInBytes file house bay acceptor b o l s i)) (t .writes i) in
+    subst (λ (k : Graph). Few (viewOf k) votes) (sym (graph file house bay acceptor b o))
+    (subst (Few (viewOf (r .graph))) (sym same)
+    (rounds.fewReplies sha256 sha256IsIdRule file house bay acceptor r (starts file house bay acceptor b o) (map ruled l)
+    (subst (NoCollision sha256) (ap₂ _++_ (t .accepts) (t .writes)) free)))

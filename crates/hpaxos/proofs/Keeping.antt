@@ -12,7 +12,7 @@ use Rattle.round.specs.Round.{Round}
 use Rattle.round.specs.declared.Outcome.{Outcome}
 use Rattle.round.specs.declared.Outcome.the-variants as outcome
 use Rattle.round.specs.Delivery.{delivered}
-use Rattle.round.specs.Demands.{Starts, Typed}
+use Rattle.round.specs.Premises.{Starts, Typed}
 use Rattle.round.proofs.JustOpened.{opened-round}
 use Rattle.round.proofs.OneCall.{refused-leaves-all}
 use Rattle.roundbytes.specs.Layout.{roundLen, roundBytes, roundIn, Laid}

@@ -22,7 +22,7 @@ use Rattle.graphfile.proofs.Reader.{GraphGot, pick-got, check-got, then-got, gr
 use Rattle.graphfile.proofs.View.{Fits, all-fits, rows-fits}
 use Rattle.graphfile.proofs.Accepted.{file-got}
 use Rattle.round.specs.Round.{Round}
-use Rattle.round.specs.Demands.{Starts}
+use Rattle.round.specs.Premises.{Starts}
 use Rattle.round.proofs.JustOpened.{opens, opened-own}
 use Rattle.roundbytes.specs.Layout as layout
 use Rattle.roundbytes.proofs.Typing.{be-below}

@@ -17,12 +17,16 @@ use Rattle.graphfile.specs.Arrays.{readingOf}
 use Rattle.message.specs.declared.Proposal.{Proposal}
 use Rattle.message.specs.Layout.{proposalKind}
 use Rattle.message.specs.Writer.{proposalBytes, wrote, writtenTo, referenceAnswer, referenceTo}
+use Rattle.protocol.specs.Votes.{Few}
 use Rattle.round.specs.Limits.{maxHeld, listening, ownAllowed}
 use Rattle.round.specs.Handed.{fits}
 use Rattle.round.specs.Opening.{opened}
+use Rattle.round.specs.Delivery.{messageRead}
 use Rattle.round.specs.Answers.{isTaken}
 use Rattle.round.specs.Lists.{lastRound, accepted, written, pages}
-use Rattle.round.specs.Demands.{SafeEdge, NoCollision, OneValue, ChainFrom, GroundedIn, SameRowIn, SameCaughtIn, OneCaughtIn}
+use Rattle.round.specs.FaultPage.{GroundedIn, SameRowIn}
+use Rattle.round.specs.Neighbours.{SameCaughtIn, OneCaughtIn}
+use Rattle.round.specs.Demands.{SafeEdge, NoCollision, OneValue, ChainFrom}
 use Rattle.roundbytes.specs.Layout.{ownAt, heldAt, kindsAt, countsAt, referencesAt, roundLen, roundIn}
 use Rattle.plain.specs.Digest.{digestAnswer, digestBuffer}
 use Rattle.plain.specs.Graph.{checkGraph}
@@ -87,6 +91,13 @@ OneCaughtListInBytes = (fileA fileB : List ℕ) (house bay acceptorA acceptorB :
     → (lA lB : List Call) → OfBytes lA → OfBytes lB
     → NoCollision sha256 ((accepted (run bA lA) ++ accepted (run bB lB)) ++ (written (run bA lA) ++ written (run bB lB)))
     → OneCaughtIn (roundIn (lastBytes bA lA)) (roundIn (lastBytes bB lB))
+
+-- ---- CONTROLLERS THAT TALK TO THEMSELVES: for each ballot our acceptor writes at most one 1b and at most as many 2as as the plan has learners. What the
+-- written bytes say is read over the round that the list leaves in the buffer.
+abbrev pub FewRepliesInBytes : Type 0
+FewRepliesInBytes = (file : List ℕ) (house bay acceptor : ℕ) (b : List ℕ) → OpenedIn file house bay acceptor b → (l : List Call) → OfBytes l
+    → NoCollision sha256 (accepted (run b l) ++ written (run b l))
+    → Few (viewOf (readingOf file .graph)) (map (messageRead sha256 (roundIn (lastBytes b l))) (written (run b l)))
 
 -- ---- OPENING: "a graph file (checked first; 17 comes after 7)". A file that is turned down answers its own row, whatever else is given or lent; then
 -- it is 17 where the acceptor number is neither in the graph nor 256 and where the buffer is too short for a round; and otherwise 0.

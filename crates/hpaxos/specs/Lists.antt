@@ -2,7 +2,7 @@
 -- written and shown in a list is read off that as round/specs/Lists says.
 use mathlib.Core.Path.{_≡_}
 use mathlib.Core.List.{List, [], _∷_}
-use Prim.Native.Nat.{ℕ, _+_, _<_}
+use Prim.Native.Nat.{ℕ, _+_, _<_, _^_}
 use lib.ListN.{getD}
 use Rattle.base.specs.Bytes.{be, Octets}
 use Rattle.round.specs.Answers.{Page, page}
@@ -17,8 +17,8 @@ pub record OpenedIn (file : List ℕ) (house bay acceptor : ℕ) (b : List ℕ) 
   pub answers : openAnswer file house bay acceptor lent ≡ 0
   pub leaves : b ≡ openTo file house bay acceptor lent
   pub fileBytes : Octets file
-  pub houseFits : house < 65536
-  pub bayFits : bay < 65536
+  pub houseFits : house < 256 ^ 2
+  pub bayFits : bay < 256 ^ 2
 
 -- hpaxos_deliver with a message and a reply buffer, and hpaxos_report with a learner and a buffer for the page; buffers of any length
 pub data Call : Type 0 where

@@ -109,8 +109,9 @@ pub fn judge_vote<'a>(
     ensures { λ r. ⌜ Judged (graphOf (roundIn (now (s .entry)))) (messageOf (roundIn (now (s .entry))) (recordOf (roundIn (now (s .entry))) (now (id .entry)) vote)) r ⌝ }
 {
     let count = vote.count;
+    let previous = vote.previous;
     let places = &vote.places[..];
-    judge(s, masks, words, octets, id, &places[0..count])
+    judge(s, masks, words, octets, id, previous, &places[0..count])
 }
 
 // Rows 14 to 16 of such a message, by what was found for its id.

@@ -4,7 +4,7 @@ use mathlib.Core.Logic.{_⊎_, inl, inr}
 use mathlib.Core.Bool.{Bool, true, false, not, _&&_, _||_}
 use mathlib.Core.Option.{none}
 use mathlib.Core.List.{List, [], _∷_, _++_}
-use Prim.Native.Nat.{ℕ, _+_, _-_, _≤_, _<_}
+use Prim.Native.Nat.{ℕ, _+_, _≤_, _<_}
 use native.Mathlib.Decide.{decLt, ℕ-discrete}
 use native.Mathlib.Omega.{arith}
 use lib.Dec.{T, eqb, ltb, eqb→eq, ltb→lt}
@@ -45,6 +45,7 @@ noted-grows G t u ord i l h =
       first = h .first ∙ ap is1b (sym e);
       second = h .second ∙ ap is2a (sym e);
       learning = λ a la. h .learning a la ∙ ap (λ (m : Message). lrns G m a) (sym e);
+      within = h .within;
       freshly = λ a la one. h .freshly a la (subst (λ (m : Message). T (is1b m)) e one) ∙ ap (λ (m : Message). fresh G a m) (sym e);
     }
   where
@@ -83,6 +84,7 @@ noted-told G u ord n r h low high w =
       first = h .first;
       second = h .second;
       learning = h .learning;
+      within = h .within;
       freshly = h .freshly;
     }
 
@@ -107,6 +109,7 @@ noted-offer G u ord n id s x e low high w =
       first = sym first;
       second = sym second;
       learning = λ a la. has-zero a ∙ sym (lrns-at u G ord n n (omega arith) a ∙ no-two (is2aAt u n) _ second);
+      within = λ a m. absurd (subst T (has-zero a) m);
       freshly = λ a la one. absurd (subst T first one);
     }
   where

@@ -7,17 +7,18 @@ use Prim.Native.Nat.{ℕ, _≤_, _<_}
 use native.Mathlib.Decide.{decLt}
 use native.Mathlib.Omega.{arith}
 use lib.Dec.{T, eqb, eqb→eq}
-use lib.ListN.{getD}
+use lib.ListN.{length, getD}
 use Rattle.base.proofs.Tests.{same-test, eq→eqb}
 use mathlib.Core.Option.{Option, none, some}
 use borrow.Author.Tests.{eq-eqb, ne-eqb}
 use Rattle.base.specs.Tests.{_∈_, pick}
 use Rattle.protocol.specs.Ids.{Id, sameId, samePrevious}
-use Rattle.protocol.specs.Table.{Held, offers, says, tabulate, heldId, heldSigner, heldPrevious, offered}
+use Rattle.protocol.specs.Table.{Held, offers, says, at, tabulate, heldId, heldSigner, heldPrevious, offered}
 use Rattle.protocol.proofs.Growth.{length-tabulate, at-tabulate}
 use Rattle.meaning.specs.Inside.Records.{Fit}
 use Rattle.meaning.specs.Inside.Notes.{Candidate}
 use Rattle.protocol.proofs.Ids.{sameId-law}
+use Rattle.places.proofs.Membership.{eqb-swap}
 use Rattle.scan.specs.Inside.Arrays.{Lowest, Named}
 use Rattle.round.specs.Round.{Round}
 use Rattle.round.specs.Limits.{noPlace, maxHeld}
@@ -119,6 +120,15 @@ module _ (rn : Round) where
 
   pub record-offers : (j : ℕ) → isProposalAt rn j ≡ true → f j ≡ offers (idAt rn j) (signerAt rn j) (getD (rn .ballots) j 0)
   record-offers j e = ap (λ (b : Bool). pick b (offers (idAt rn j) (signerAt rn j) (getD (rn .ballots) j 0)) (says (idAt rn j) (signerAt rn j) (named rn (getD (rn .previous) j 0)) (referencesAt rn j))) e
+
+  -- one of n places has the name of a previous place, or of none, exactly if that names its id
+  pub previous-law : (n : ℕ) → n ≤ maxHeld → (bn : ByteNotes) → Named rn n bn → (y : ℕ) → (y ≡ noPlace) ⊎ (y < n) → (j : ℕ) → j < length (tabulate n f)
+      → eqb (getD (bn .names) j 0) (getD (bn .names) y 0) ≡ samePrevious (named rn y) (some (heldId (at (tabulate n f) j)))
+  previous-law n small bn h y ly j l =
+      let z = length-tabulate n f in
+      let g : j < n = omega arith in
+      eqb-swap (getD (bn .names) j 0) (getD (bn .names) y 0) ∙ link-law rn bn n y j small h ly (inr g)
+      ∙ ap₂ (λ (b : Bool) (i : Id). samePrevious (named rn y) (pick b none (some i))) (ne-eqb j noPlace (λ e. omega arith)) (sym (ap heldId (at-tabulate n f j g) ∙ record-id j))
 
   -- ---- an acceptor message after the first m of n places
   pub candidate : (n m : ℕ) → Fit n rn → m ≤ n → (bn : ByteNotes) → Named rn n bn → (id : Id) (s y : ℕ) (ps : List ℕ)

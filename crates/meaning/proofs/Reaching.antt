@@ -16,7 +16,7 @@ use Rattle.protocol.specs.Ids.{Id, sameId}
 use Rattle.protocol.specs.Message.{ballot}
 use Rattle.protocol.specs.WellFormed.{formed1b, formed2a}
 use Rattle.protocol.specs.Table.{Held, says, Table, at, heldId, offered, places, Ordered, nodeBy, tree, reach}
-use Rattle.protocol.specs.Inside.Places.{is1bAt, is2aAt, ballotAt, formed1bAt, formed2aAt, lrnsAt}
+use Rattle.protocol.specs.Inside.Places.{is1bAt, is2aAt, ballotAt, formed1bAt, formed2aAt, lrnsAt, repeatsAt}
 use Rattle.protocol.proofs.Table.{reach-is, reach-le}
 use Rattle.protocol.proofs.Growth.{at-append, at-end, tree-append, reach-append, ordered-snoc}
 use Rattle.protocol.proofs.Places.{is1b-at, is2a-at, ballotBy, ballot-at, formed1b-at}
@@ -168,4 +168,4 @@ module _ (t : Table) (rn : Round) (wn : WordNotes) (ps : List ℕ) (rd : Reached
       first-judged crowded hc one =
           judged G (not crowded) true
           (ap not (hc ∙ crowded-told) ∙ not-not (all alone (below n)) ∙ sym (formed1b-at u ord n n (omega arith) ∙ ap (λ (z : Bool). not z || all alone (below n)) (first-told ∙ one)))
-          (sym (formed2a-at u G n ∙ ap (λ (z : Bool). not z || any (lrnsAt u G n) (below (G .learners))) (second-told ∙ ap not one)))
+          (sym (formed2a-at u G n ∙ ap (λ (z : Bool). not z || (any (lrnsAt u G n) (below (G .learners)) && not (repeatsAt u G n))) (second-told ∙ ap not one)))

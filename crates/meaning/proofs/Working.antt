@@ -1,10 +1,10 @@
 -- What is worked out for a message is what the definitions say of it. t holds the places before it, u the message besides, at place n.
 use mathlib.Core.Path.{_≡_, refl, sym, ap, ap₂, subst, _∙_}
 use mathlib.Core.Logic.{_⊎_, inl, inr}
-use mathlib.Core.Bool.{Bool, true, false, not, _&&_, _||_}
-use mathlib.Core.Option.{Option}
+use mathlib.Core.Bool.{Bool, true, false, not, _&&_, _||_, Bool·beq}
+use mathlib.Core.Option.{Option, some}
 use mathlib.Core.List.{List, [], _∷_, _++_}
-use Prim.Native.Nat.{ℕ, zero, suc, _≤_, _<_, _^_}
+use Prim.Native.Nat.{ℕ, suc, _≤_, _<_}
 use native.Mathlib.Decide.{decLt}
 use native.Mathlib.Omega.{arith}
 use borrow.Author.Tests.{lt-ltb, le-ltb}
@@ -12,7 +12,7 @@ use lib.Dec.{T, eqb, ltb, eqb→eq, ltb→lt, lt→ltb, not-T, T-not}
 use lib.ListN.{length, getD}
 use Rattle.base.specs.Tests.{_∈_, pick, any, all, below}
 use Rattle.base.specs.Sets.{has}
-use Rattle.base.proofs.Tests.{same-test, dec-T, eq→eqb, neqb→ne, and-in, and-l, and-r, and-cong, or-l, or-r, or-out, imp-in, imp-out, any-in, any-out, all-in, all-out, any-cong, below-in, below-out}
+use Rattle.base.proofs.Tests.{same-test, dec-T, eq→eqb, and-in, and-l, and-r, and-cong, or-l, or-r, or-out, imp-in, imp-out, any-in, any-out, all-in, all-out, any-cong, all-cong, below-in, below-out}
 use Rattle.base.specs.Ballots.{valueOf}
 use Rattle.graph.specs.LearnerGraph.{LearnerGraph, isQuorum, safeWithout}
 use Rattle.graph.proofs.LearnerGraph.{quorum-cong, without-cong}
@@ -20,18 +20,17 @@ use Rattle.protocol.specs.Ids.{Id, sameId, samePrevious}
 use Rattle.protocol.specs.Message.{Message, is1b, is2a, ballot, value, forks}
 use Rattle.protocol.specs.Learners.{fresh, lrns}
 use Rattle.protocol.specs.WellFormed.{formed1b, formed2a}
-use Rattle.protocol.specs.Table.{Held, says, Table, at, heldId, heldSigner, heldPrevious, offered, Ordered, nodeBy, tree, reach}
-use Rattle.protocol.specs.Inside.Places.{is1bAt, is2aAt, ballotAt, valueAt, caughtAt, conAt, buriedAt, freshAt, lrnsAt}
+use Rattle.protocol.specs.Table.{Held, says, Table, at, heldId, heldSigner, heldPrevious, offered, places, Ordered, nodeBy, tree, reach}
+use Rattle.protocol.specs.Inside.Places.{is1bAt, is2aAt, ballotAt, valueAt, caughtAt, conAt, buriedAt, freshAt, lrnsAt, repeatsAt}
 use Rattle.protocol.proofs.Ids.{sameId-law, samePrevious-law}
 use Rattle.protocol.proofs.Table.{reach-self}
 use Rattle.protocol.proofs.Places.{forksHeld, forks-at, caught-at, formed1b-at}
-use Rattle.protocol.proofs.PlacesLearners.{con-at, buried-at, fresh-at, lrns-at, formed2a-at}
+use Rattle.protocol.proofs.PlacesLearners.{con-at, buried-at, fresh-at, lrns-at, repeats-at, formed2a-at}
 use Rattle.places.specs.Inside.PlaceSets.{inSet, meets}
-use Rattle.scan.specs.Inside.Arrays.{Beneath, isFork, isCaught, isCrowding}
+use Rattle.scan.specs.Inside.Arrays.{Beneath, isFork, isCaught, isCrowding, isRepeat}
 use Rattle.voting.specs.Inside.Votes.{isVote, voteBallot, peaksOf, isBuried, isOpposed, isBarred, isBacker, backedBy}
 use Rattle.meaning.specs.Inside.Notes.{AllNoted, Candidate, Told, Judged}
-use Rattle.base.proofs.Bits.{some-bit}
-use native.Mathlib.Nat.{pow-suc}
+use Rattle.base.proofs.Sets.{some-member, same-below}
 use Rattle.places.proofs.Membership.{has-zero}
 use Rattle.places.proofs.Loops.{any-at}
 use Rattle.voting.proofs.Burying.{buried-by-peaks}
@@ -90,15 +89,6 @@ middle : (r a b b′ c d : Bool) → (T a → b ≡ b′) → (r && a && b && c 
 middle r true b b′ c d h = ap (λ (x : Bool). r && true && x && c && d) (h tt)
 middle true false b b′ c d h = refl
 middle false false b b′ c d h = refl
-
--- a number that is not 0 has a member
-below-pow : (x : ℕ) → x < 2 ^ x
-below-pow zero = omega arith
-below-pow (suc x) = let h = below-pow x in let e = pow-suc 2 x in omega arith
-
-some-member : (x : ℕ) → T (not (eqb x 0)) → (i : ℕ) × T (has x i)
-unfolding has
-some-member x h = let (i, (l, e)) = some-bit x x (below-pow x) (neqb→ne x 0 h) in (i, eq→eqb e)
 
 -- the last test is read only where the first passes
 last : (a b c d d′ : Bool) → (T a → d ≡ d′) → (a && b && c && d) ≡ (a && b && c && d′)
@@ -333,7 +323,7 @@ module _ (G : LearnerGraph) (t : Table) (rn : Round) (wn : WordNotes) (bn : Byte
     abbrev alone : ℕ → Bool
     alone = reaching.alone t rn wn ps rd id sig prev n size small back lo hi bal o bt
 
-    -- a 2a: whether it has learners
+    -- a 2a: whether it has learners, and whether it repeats a vote
     module _ (mask : ℕ) (hl : (q : ℕ) → has mask q ≡ any (λ a. isQuorum G a (backedBy rn wn bn n lo hi bal a) && eqb a q) (below (G .learners))) (two : o ≡ false) where
       all-asked : G .learners ≡ pick (not o) (G .learners) 0
       all-asked = ap (λ (z : Bool). pick (not z) (G .learners) 0) (sym two)
@@ -353,10 +343,36 @@ module _ (G : LearnerGraph) (t : Table) (rn : Round) (wn : WordNotes) (bn : Byte
               let k : T (has mask a) = subst T (sym (learning-told mask (G .learners) all-asked hl a (below-out (G .learners) m))) q in
               not-T (eqb mask 0) (λ e. subst T (has-zero a) (subst (λ (x : ℕ). T (has x a)) (eqb→eq mask 0 e) k))
 
-      pub second-judged : Judged G (nodeBy (tree t) new) (record { formed1b = true; formed2a = not (eqb mask 0) })
-      second-judged =
-          reaching.judged t rn wn ps rd id sig prev n size small back lo hi bal o bt G true (not (eqb mask 0)) (sym (formed1b-at u ord n n (omega arith) ∙ ap (λ (z : Bool). not z || all alone (below n)) (first-told ∙ two)))
-          (learners-told ∙ sym (formed2a-at u G n ∙ ap (λ (z : Bool). not z || any (lrnsAt u G n) (below (G .learners))) (second-told ∙ ap not two)))
+      -- a held message has its learners
+      same-told : (j : ℕ) → j < n → eqb (getD (bn .learners) j 0) mask ≡ all (λ a. Bool·beq (lrnsAt u G j a) (lrnsAt u G n a)) (below (G .learners))
+      same-told j l =
+          same-below (G .learners) (getD (bn .learners) j 0) mask (kn .noted j (omega arith) .within) (outside mask (G .learners) all-asked hl)
+          ∙ all-cong _ _ (below (G .learners)) (λ a m. let la = below-out (G .learners) m in ap₂ Bool·beq (learning-is j l a la) (learning-told mask (G .learners) all-asked hl a la))
+
+      -- the link tells the ids of the places from its previous id
+      module _ (link : ℕ) (linked : (j : ℕ) → j < length t → eqb (getD (bn .names) j 0) link ≡ samePrevious prev (some (heldId (at t j)))) where
+        abbrev repeats : ℕ → Bool
+        repeats j =
+            samePrevious prev (some (heldId (at u j))) && is2aAt u j && eqb (ballotAt u j) (ballotAt u n) && all (λ a. Bool·beq (lrnsAt u G j a) (lrnsAt u G n a)) (below (G .learners))
+
+        repeat-told : (j : ℕ) → j < n → isRepeat wn bn link bal mask j ≡ repeats j
+        repeat-told j l =
+            let k : eqb (getD (bn .names) j 0) link ≡ samePrevious prev (some (heldId (at u j))) = linked j (omega arith) ∙ ap (λ (r : Held). samePrevious prev (some (heldId r))) (sym (at-old j l)) in
+            λ e. k e && second-is j l e && eqb (top-is j l e) (ballot-told e) && same-told j l e
+
+        repeats-told : any (isRepeat wn bn link bal mask) ps ≡ repeatsAt u G n
+        unfolding heldPrevious places
+        repeats-told =
+            any-cong (isRepeat wn bn link bal mask) repeats ps (λ j m. let g = back j m in repeat-told j (omega arith))
+            ∙ sym (repeats-at u G n ord ∙ ap (λ (r : Held). any (λ j. samePrevious (heldPrevious r) (some (heldId (at u j))) && is2aAt u j && eqb (ballotAt u j) (ballotAt u n)
+            && all (λ a. Bool·beq (lrnsAt u G j a) (lrnsAt u G n a)) (below (G .learners))) (places r)) at-new)
+
+        pub second-judged : (repeated : Bool) → repeated ≡ any (isRepeat wn bn link bal mask) ps → Judged G (nodeBy (tree t) new) (record { formed1b = true; formed2a = not (eqb mask 0) && not repeated })
+        second-judged repeated hr =
+            reaching.judged t rn wn ps rd id sig prev n size small back lo hi bal o bt G true (not (eqb mask 0) && not repeated)
+            (sym (formed1b-at u ord n n (omega arith) ∙ ap (λ (z : Bool). not z || all alone (below n)) (first-told ∙ two)))
+            (ap₂ (λ (x y : Bool). x && not y) learners-told (hr ∙ repeats-told)
+            ∙ sym (formed2a-at u G n ∙ ap (λ (z : Bool). not z || (any (lrnsAt u G n) (below (G .learners)) && not (repeatsAt u G n))) (second-told ∙ ap not two)))
 
     -- ---- a message that a name and a link tell from those held
     module _ (name link : ℕ) (ca : Candidate t rn bn ps id prev name link) where

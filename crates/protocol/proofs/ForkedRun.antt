@@ -15,7 +15,7 @@ use Rattle.graph.specs.LearnerGraph.{LearnerGraph, isQuorum, isSafe, safeWithou
 use Rattle.protocol.specs.Ids.{sameId, samePrevious}
 use Rattle.protocol.specs.Message.{Message, listed, idOf, signer, previous, references, isProposal, proposed, is1b, is2a, signers, tran, largest, ballot, value, forks, caughtIn, caught}
 use Rattle.protocol.specs.Learners.{con, buriedBy, con2asBy, freshBy, backersBy, lrnsBy, height, lrnsIn, lrns}
-use Rattle.protocol.specs.WellFormed.{isPrevious, linked, chained, alone, formed1b, formed2a}
+use Rattle.protocol.specs.WellFormed.{isPrevious, linked, chained, alone, formed1b, isRepeatOf, repeats, formed2a}
 use Rattle.protocol.specs.Report.{votes, decides, deciding, least, others, decided, split, against, verdict, report}
 use Rattle.protocol.specs.Table.{offers, says, Table, at, heldId, places, gather, nodeBy, treeIn, tree, messages, idsAt, contentOf}
 use Rattle.protocol.specs.Theorems.{SoundGraph, Lawful}
@@ -70,7 +70,7 @@ pub computed : T (valid G && condensed G && valid H && condensed H)
     × T (not (isSafe G 0 1 (λ p. not (caughtIn M p))) && not (isSafe H 0 1 (λ p. not (caughtIn M p))))
     × (report G (messages t ks) 0 ≡ decided 5) × (report G (messages t ks) 1 ≡ decided 6) × (report G (messages t ks) 2 ≡ split 5 6)
     × (report H (messages t ks) 0 ≡ decided 5) × (report H (messages t ks) 1 ≡ decided 6) × (report H (messages t ks) 2 ≡ split 5 6)
-unfolding any all filter below has contains apart isQuorum isSafe safeWithout common validAt valid condensedAt condensed sameId samePrevious listed idOf signer previous references isProposal proposed is1b is2a signers tran largest ballot valueOf value forks caughtIn caught con buriedBy con2asBy freshBy backersBy lrnsBy height lrnsIn lrns isPrevious linked chained alone formed1b formed2a votes decides deciding least others against verdict report at heldId places gather nodeBy treeIn tree messages idsAt contentOf orderedTest acceptedAt acceptedTest sameIds sameContent freeTest
+unfolding any all filter below has contains apart isQuorum isSafe safeWithout common validAt valid condensedAt condensed sameId samePrevious listed idOf signer previous references isProposal proposed is1b is2a signers tran largest ballot valueOf value forks caughtIn caught con buriedBy con2asBy freshBy backersBy lrnsBy height lrnsIn lrns isPrevious linked chained alone formed1b isRepeatOf repeats formed2a votes decides deciding least others against verdict report at heldId places gather nodeBy treeIn tree messages idsAt contentOf orderedTest acceptedAt acceptedTest sameIds sameContent freeTest
 computed = (tt, tt, tt, tt, tt, tt, refl, refl, refl, refl, refl, refl)
 
 -- the premises that are met, as the theorem states them

@@ -1,5 +1,5 @@
 -- A table that grows at its end keeps the records, the messages, the reach and the contents of its places.
-use mathlib.Core.Path.{_≡_, refl, ap, subst, _∙_}
+use mathlib.Core.Path.{_≡_, refl, sym, ap, subst, _∙_}
 use mathlib.Core.Logic.{_⊎_, inl, inr}
 use mathlib.Core.Bool.{not, _||_}
 use mathlib.Core.List.{List, [], _∷_, _++_, List·Memᴰ·head, List·Memᴰ·tail}
@@ -63,6 +63,14 @@ module _ (t u : Table) (ord : Ordered t) where
   -- contents
   pub content-append : (i : ℕ) → i < length t → content (t ++ u) i ≡ content t i
   content-append i h = ap (contentOf (t ++ u)) (at-append t u i h) ∙ contentOf-append t u (at t i) (λ j m. omega (arith, ord i j m))
+
+-- the front of an ordered table is ordered
+pub ordered-front : (t u : Table) → Ordered (t ++ u) → Ordered t
+ordered-front t u ord i j m = step (dec-T (ltb i (length t)))
+  where
+    step : T (ltb i (length t)) ⊎ T (not (ltb i (length t))) → j < i
+    step (inl c) = ord i j (subst (λ (r : Held). j ∈ places r) (sym (at-append t u i (ltb→lt i (length t) c))) m)
+    step (inr c) = absurd (nothing-past (subst (λ (r : Held). j ∈ places r) (at-past t i (nltb→le i (length t) c)) m))
 
 -- a record whose references are places of the table keeps it ordered
 pub ordered-snoc : (t : Table) (r : Held) → Ordered t → ((j : ℕ) → j ∈ places r → j < length t) → Ordered (t ++ r ∷ [])

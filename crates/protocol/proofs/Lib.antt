@@ -20,6 +20,10 @@ pub mod Report
 pub mod PrevTran
 -- Where two chains part, their signer is caught; the acceptor messages of an honest acceptor are in a line
 pub mod Chain
+-- How many elements of a list pass a test
+pub mod Counting
+-- How often an acceptor votes
+pub mod Votes
 -- Theorem 22, on trees
 pub mod Agreement
 -- Theorem 21
@@ -46,6 +50,8 @@ pub mod Run
 pub mod ForkedRun
 -- The misreadings that document 01 shuts out, each with a case in which it would answer otherwise
 pub mod Misreadings
+-- Which votes are repeated ones, and a line of votes that reaches the bounds
+pub mod VoteCases
 -- Both texts catch the same acceptors
 pub mod November
 -- A case of that; for each premise one in which the texts differ without it; and why it is taken over acceptor messages

@@ -23,6 +23,14 @@ unfolding any gather listed
 any-gather g f [] = refl
 any-gather g f (k ∷ r) = ap (λ (b : Bool). g (f k) || b) (any-gather g f r)
 
+any-node : (g : Message → Bool) (f : ℕ → Message) (r : Held) → any g (references (nodeBy f r)) ≡ any (λ k. g (f k)) (places r)
+unfolding any references nodeBy places
+any-node g f (offers i s b) = refl
+any-node g f (says i s p r) = any-gather g f r
+
+pub any-references : (t : Table) → Ordered t → (i : ℕ) (g : Message → Bool) → any g (references (tree t i)) ≡ any (λ k. g (tree t k)) (places (at t i))
+any-references t ord i g = ap (λ (m : Message). any g (references m)) (tree-is t ord i) ∙ any-node g (tree t) (at t i)
+
 node-1b : (f : ℕ → Message) (r : Held) → is1b (nodeBy f r) ≡ (not (offered r) && any (λ k. isProposal (f k)) (places r))
 unfolding is1b references nodeBy isProposal offered places
 node-1b f (offers i s b) = refl

@@ -2,25 +2,28 @@
 -- well-formed 2as, decisions and the report.
 use mathlib.Core.Path.{_≡_, refl, sym, ap, subst, _∙_}
 use mathlib.Core.Logic.{_↔_}
-use mathlib.Core.Bool.{Bool, not, _&&_, _||_, and-assoc}
+use mathlib.Core.Bool.{Bool, not, _&&_, _||_, and-assoc, Bool·beq}
+use mathlib.Core.Option.{some}
 use mathlib.Core.List.{List, map}
 use Prim.Native.Nat.{ℕ, _≤_}
 use lib.Dec.{T, eqb, ltb, eqb-refl, not-T}
 use Rattle.base.specs.Tests.{_∈_, any, all, filter, below}
 use Rattle.base.proofs.Tests.{and-l, and-cong, or-r, any-filter, all-filter, any-map}
 use Rattle.graph.specs.LearnerGraph.{LearnerGraph, isQuorum, safeWithout}
+use Rattle.protocol.specs.Ids.{samePrevious}
 use Rattle.protocol.specs.Message.{Message, signer, is1b, is2a, signers, tran, ballot, value}
 use Rattle.protocol.specs.Learners.{con, buriedBy, con2asBy, freshBy, backersBy, lrns, buried, fresh, backers}
-use Rattle.protocol.specs.WellFormed.{formed2a}
+use Rattle.protocol.specs.WellFormed.{sameLearners, isRepeatOf, repeats, formed2a}
 use Rattle.protocol.specs.Report.{votes, decides, Verdict}
-use Rattle.protocol.specs.Table.{Table, at, heldSigner, Ordered, tree, messages, reach}
+use Rattle.protocol.specs.Table.{Table, at, heldId, heldSigner, heldPrevious, places, Ordered, tree, messages, reach}
 use Rattle.protocol.specs.Equations.{Says}
-use Rattle.protocol.specs.Inside.Places.{is1bAt, is2aAt, ballotAt, valueAt, caughtAt, conAt, buriedAt, freshAt, lrnsAt, formed2aAt, decidesAt, reportAt}
+use Rattle.protocol.specs.Inside.Places.{is1bAt, is2aAt, ballotAt, valueAt, caughtAt, conAt, buriedAt, freshAt, lrnsAt, repeatsAt, formed2aAt, decidesAt, reportAt}
 use Rattle.protocol.proofs.Message.{2a-law}
 use Rattle.protocol.proofs.Knot.{lrns-is}
 use Rattle.protocol.proofs.Report.{says-cong, Deciding, report-law}
-use Rattle.protocol.proofs.Table.{tree-signer}
+use Rattle.protocol.proofs.Table.{tree-id, tree-signer, tree-previous}
 use Rattle.protocol.proofs.Tables.{messages-in, messages-out}
+use Rattle.protocol.proofs.Places.{any-references}
 use Rattle.protocol.proofs.Loops.{any-beneath, all-beneath}
 
 module _ (t : Table) (G : LearnerGraph) (i : ℕ) where
@@ -28,9 +31,19 @@ module _ (t : Table) (G : LearnerGraph) (i : ℕ) where
   unfolding con
   con-at a b = refl
 
-  pub formed2a-at : formed2aAt t G i ≡ (not (is2aAt t i) || any (lrnsAt t G i) (below (G .learners)))
+  pub formed2a-at : formed2aAt t G i ≡ (not (is2aAt t i) || (any (lrnsAt t G i) (below (G .learners)) && not (repeatsAt t G i)))
   unfolding formed2a
   formed2a-at = refl
+
+  -- i refers to a 2a of its ballot and with its learners, of the id that it names as previous
+  pub repeats-at : Ordered t
+      → repeatsAt t G i ≡ any (λ j. samePrevious (heldPrevious (at t i)) (some (heldId (at t j))) && is2aAt t j && eqb (ballotAt t j) (ballotAt t i)
+      && all (λ a. Bool·beq (lrnsAt t G j a) (lrnsAt t G i a)) (below (G .learners))) (places (at t i))
+  unfolding repeats isRepeatOf sameLearners
+  repeats-at ord =
+      any-references t ord i (isRepeatOf G (tree t i))
+      ∙ (λ e. any (λ j. samePrevious (tree-previous t i e) (some (tree-id t j e)) && is2aAt t j && eqb (ballotAt t j) (ballotAt t i)
+      && all (λ a. Bool·beq (lrnsAt t G j a) (lrnsAt t G i a)) (below (G .learners))) (places (at t i)))
 
 module _ (t : Table) (G : LearnerGraph) (ord : Ordered t) (i n : ℕ) (l : i ≤ n) where
   -- ---- Buried, at a 1b

@@ -14,7 +14,7 @@ use Rattle.graph.specs.LearnerGraph.{LearnerGraph, isQuorum, isSafe, safeWithou
 use Rattle.protocol.specs.Ids.{sameId, samePrevious}
 use Rattle.protocol.specs.Message.{Message, listed, idOf, signer, previous, references, isProposal, proposed, is1b, is2a, signers, tran, largest, ballot, value, forks, caughtIn, caught}
 use Rattle.protocol.specs.Learners.{con, buriedBy, con2asBy, freshBy, backersBy, lrnsBy, height, lrnsIn, lrns, fresh}
-use Rattle.protocol.specs.WellFormed.{isPrevious, linked, chained, alone, formed1b, formed2a}
+use Rattle.protocol.specs.WellFormed.{isPrevious, linked, chained, alone, formed1b, isRepeatOf, repeats, formed2a}
 use Rattle.protocol.specs.Report.{votes, decides, deciding, least, others, undecided, decided, against, verdict, report}
 use Rattle.protocol.specs.Table.{offers, says, Table, at, heldId, places, gather, nodeBy, treeIn, tree, messages, idsAt, contentOf}
 use Rattle.protocol.specs.Theorems.{SoundGraph, Entangled, Agree}
@@ -64,7 +64,7 @@ pub computed : T (valid G && condensed G && isSafe G 0 1 (λ p. true) && all (λ
     × T (acceptedTest t ks) × T (acceptedTest u js) × T (freeTest t ks t ks) × T (freeTest t ks u js) × T (freeTest u js u js)
     × (report G (messages t ks) 0 ≡ decided 5) × (report G (messages u js) 1 ≡ decided 5) × (report G (messages t (below 4)) 0 ≡ undecided)
     × T (lrns G (tree t 3) 0 && lrns G (tree t 3) 1 && not (fresh G 0 (tree u 7)) && not (fresh G 1 (tree u 7)) && fresh G 0 (tree u 4) && formed2a G (tree t 4))
-unfolding any all filter below has contains apart isQuorum isSafe safeWithout common validAt valid condensedAt condensed sameId samePrevious listed idOf signer previous references isProposal proposed is1b is2a signers tran largest ballot valueOf value forks caughtIn caught con buriedBy con2asBy freshBy backersBy lrnsBy height lrnsIn lrns isPrevious linked chained alone formed1b formed2a votes decides deciding least others against verdict report at heldId places gather nodeBy treeIn tree messages idsAt contentOf orderedTest acceptedAt acceptedTest sameIds sameContent freeTest
+unfolding any all filter below has contains apart isQuorum isSafe safeWithout common validAt valid condensedAt condensed sameId samePrevious listed idOf signer previous references isProposal proposed is1b is2a signers tran largest ballot valueOf value forks caughtIn caught con buriedBy con2asBy freshBy backersBy lrnsBy height lrnsIn lrns isPrevious linked chained alone formed1b isRepeatOf repeats formed2a votes decides deciding least others against verdict report at heldId places gather nodeBy treeIn tree messages idsAt contentOf orderedTest acceptedAt acceptedTest sameIds sameContent freeTest
 computed = (tt, tt, tt, tt, tt, tt, refl, refl, refl, tt)
 
 sound : SoundGraph G

@@ -1,18 +1,18 @@
 -- The chain property and well-formed messages, in words: each law is an equivalence.
 use mathlib.Core.Path.{_≡_, refl, subst}
 use mathlib.Core.Logic.{_⊎_, inl, inr, _↔_, _≢_}
-use mathlib.Core.Bool.{not, _||_}
+use mathlib.Core.Bool.{Bool, not, _&&_, _||_, Bool·beq}
 use mathlib.Core.Option.{Option, none, some}
 use Prim.Native.Nat.{ℕ, _<_}
-use lib.Dec.{T, eqb, eqb→eq, T-not}
+use lib.Dec.{T, eqb, eqb→eq, T-not, not-T}
 use Rattle.base.specs.Tests.{_∈_, any, all, below}
-use Rattle.base.proofs.Tests.{and-l, and-r, and-in, or-l, or-r, or-out, imp-in, imp-out, dec-T, eq→eqb, neqb→ne, any-in, any-out, all-in, all-out, below-in, below-out}
+use Rattle.base.proofs.Tests.{and-l, and-r, and-in, or-l, or-r, or-out, imp-in, imp-out, same-beq, beq-same, dec-T, eq→eqb, neqb→ne, any-in, any-out, all-in, all-out, below-in, below-out, any-not-all}
 use Rattle.graph.specs.LearnerGraph.{LearnerGraph}
-use Rattle.protocol.specs.Ids.{Id, sameId}
+use Rattle.protocol.specs.Ids.{Id, sameId, samePrevious}
 use Rattle.protocol.specs.Message.{Message, idOf, signer, previous, references, isProposal, isAcceptor, is1b, is2a, tran, ballot}
 use Rattle.protocol.specs.Learners.{lrns}
-use Rattle.protocol.specs.WellFormed.{isPrevious, linked, chained, alone, formed1b, formed2a, wellFormed}
-use Rattle.protocol.proofs.Ids.{sameId-law}
+use Rattle.protocol.specs.WellFormed.{isPrevious, linked, chained, alone, formed1b, sameLearners, isRepeatOf, repeats, formed2a, wellFormed}
+use Rattle.protocol.proofs.Ids.{sameId-law, samePrevious-law}
 
 -- ---- definition 18: u is the previous message of m
 abbrev pub Previous : Message → Id → Message → Type 0
@@ -67,14 +67,63 @@ formed1b-law m = (
   λ f. imp-in (is1b m) (all (alone m) (tran m)) (λ one. all-in (alone m) (tran m) (λ x k. alone-law m x .1 (f one x k))),
 )
 
--- ---- definition 20, of a 2a: lrns is not empty
-pub formed2a-law : (G : LearnerGraph) (m : Message) → T (formed2a G m) ↔ (T (is2a m) → (a : ℕ) × (a < G .learners) × T (lrns G m a))
-unfolding formed2a
-formed2a-law G m = (
-  λ h two. let (a, k, l) = any-out (lrns G m) (below (G .learners)) (imp-out (is2a m) (any (lrns G m) (below (G .learners))) h two) in (a, below-out (G .learners) k, l),
-  λ f. imp-in (is2a m) (any (lrns G m) (below (G .learners))) (λ two. let (a, k, l) = f two in any-in (lrns G m) (below-in (G .learners) k) l),
-)
+-- ---- definition 23, of a 2a: lrns is not empty, and it differs from that of a 2a of the same ballot that m names as previous
+abbrev pub Again : Message → Message → Type 0
+Again m u = (u ∈ references m) × (previous m ≡ some (idOf u)) × T (is2a u) × (ballot u ≡ ballot m)
 
-pub wellFormed-law : (G : LearnerGraph) (m : Message) → T (wellFormed G m) ↔ (T (chained m) × T (formed1b m) × T (formed2a G m))
+module _ (G : LearnerGraph) where
+  abbrev pub Differ : Message → Message → Type 0
+  Differ u m = (a : ℕ) × (a < G .learners) × (lrns G u a ≢ lrns G m a)
+
+  differ-law : (u m : Message) → T (not (sameLearners G u m)) ↔ Differ u m
+  unfolding sameLearners
+  differ-law u m = (to, from)
+    where
+      test : ℕ → Bool
+      test a = Bool·beq (lrns G u a) (lrns G m a)
+
+      to : T (not (all test (below (G .learners)))) → Differ u m
+      to h =
+          let (a, k, t) = any-out (λ a. not (test a)) (below (G .learners)) (rw (any-not-all (λ a. not (test a)) test (below (G .learners)) (λ a. refl)) h) in
+          (a, below-out (G .learners) k, λ e. T-not (test a) t (same-beq (lrns G u a) (lrns G m a) e))
+
+      from : Differ u m → T (not (all test (below (G .learners))))
+      from (a, l, ne) = not-T (all test (below (G .learners))) (λ h. ne (beq-same (lrns G u a) (lrns G m a) (all-out test (below-in (G .learners) l) h)))
+
+  repeats-law : (m : Message) → T (not (repeats G m)) ↔ ((u : Message) → Again m u → Differ u m)
+  unfolding repeats isRepeatOf
+  repeats-law m = (to, from)
+    where
+      to : T (not (any (isRepeatOf G m) (references m))) → (u : Message) → Again m u → Differ u m
+      to h u (k, e, two, b) =
+          let e′ : T (samePrevious (previous m) (some (idOf u))) = samePrevious-law (previous m) (some (idOf u)) .1 e in
+          let b′ : T (eqb (ballot u) (ballot m)) = eq→eqb b in
+          differ-law u m .0 (not-T (sameLearners G u m) (λ s. T-not (any (isRepeatOf G m) (references m)) h (any-in (isRepeatOf G m) k (search and-in))))
+
+      from : ((u : Message) → Again m u → Differ u m) → T (not (any (isRepeatOf G m) (references m)))
+      from f = not-T (any (isRepeatOf G m) (references m)) (λ h.
+          let (u, k, c) = any-out (isRepeatOf G m) (references m) h in
+          let d = f u (k, samePrevious-law (previous m) (some (idOf u)) .0 (search (and-l, and-r)), search (and-l, and-r), eqb→eq _ _ (search (and-l, and-r))) in
+          T-not (sameLearners G u m) (differ-law u m .1 d) (search (and-l, and-r)))
+
+  pub formed2a-law : (m : Message) → T (formed2a G m) ↔ (T (is2a m) → ((a : ℕ) × (a < G .learners) × T (lrns G m a)) × ((u : Message) → Again m u → Differ u m))
+  unfolding formed2a
+  formed2a-law m = (to, from)
+    where
+      some-learner : Bool
+      some-learner = any (lrns G m) (below (G .learners))
+
+      to : T (not (is2a m) || (some-learner && not (repeats G m))) → T (is2a m) → ((a : ℕ) × (a < G .learners) × T (lrns G m a)) × ((u : Message) → Again m u → Differ u m)
+      to h two =
+          let t : T (some-learner && not (repeats G m)) = imp-out (is2a m) (some-learner && not (repeats G m)) h two in
+          let (a, k, l) = any-out (lrns G m) (below (G .learners)) (and-l some-learner (not (repeats G m)) t) in
+          ((a, below-out (G .learners) k, l), repeats-law m .0 (and-r some-learner (not (repeats G m)) t))
+
+      from : (T (is2a m) → ((a : ℕ) × (a < G .learners) × T (lrns G m a)) × ((u : Message) → Again m u → Differ u m)) → T (not (is2a m) || (some-learner && not (repeats G m)))
+      from f = imp-in (is2a m) (some-learner && not (repeats G m)) (λ two.
+          let ((a, l, t), g) = f two in
+          and-in some-learner (not (repeats G m)) (any-in (lrns G m) (below-in (G .learners) l) t) (repeats-law m .1 g))
+
+pub wellFormed-law : (G : LearnerGraph) (m : Message) → T (wellFormed G m) ↔ (T (formed1b m) × T (formed2a G m))
 unfolding wellFormed
-wellFormed-law G m = (λ h. (search (and-l, and-r), search (and-l, and-r), search (and-l, and-r)), λ (c, o, t). search and-in)
+wellFormed-law G m = (λ h. (search (and-l, and-r), search (and-l, and-r)), λ (o, t). search and-in)

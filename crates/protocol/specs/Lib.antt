@@ -4,7 +4,7 @@ pub mod Ids
 pub mod Message
 -- Con, Buried, Con2as, fresh, quorum of a message and lrns (definitions 12 to 17)
 pub mod Learners
--- The chain property and well-formed messages (definitions 18 and 20)
+-- The chain property and well-formed messages (definitions 18, 20 and 23)
 pub mod WellFormed
 -- When a ballot decides, and the report for a learner (definition 19)
 pub mod Report
@@ -14,6 +14,8 @@ pub mod Table
 pub mod Equations
 -- The theorems, as statements: validity and agreement (theorems 21 and 22), and agreement between two tables
 pub mod Theorems
+-- How often an acceptor votes, as statements (section 3.7)
+pub mod Votes
 -- Caught of the text of 19 November 2024 (its definitions 8 and 12), and that both texts catch the same acceptors
 pub mod November
 -- What only functions inside say to each other: no promise leans on it

@@ -1,10 +1,10 @@
--- The chain property and well-formed messages: definitions 18 and 20 of the report, as document 01 completes them.
-use mathlib.Core.Bool.{Bool, true, not, _&&_, _||_}
+-- The chain property and well-formed messages: definitions 18, 20 and 23 of the report, as document 01 and request 1 of document 02 complete them.
+use mathlib.Core.Bool.{Bool, true, not, _&&_, _||_, Bool·beq}
 use mathlib.Core.Option.{Option, none, some}
 use lib.Dec.{eqb}
 use Rattle.base.specs.Tests.{any, all, below}
 use Rattle.graph.specs.LearnerGraph.{LearnerGraph}
-use Rattle.protocol.specs.Ids.{Id, sameId}
+use Rattle.protocol.specs.Ids.{Id, sameId, samePrevious}
 use Rattle.protocol.specs.Message.{Message, idOf, signer, previous, references, isProposal, isAcceptor, is1b, is2a, tran, ballot}
 use Rattle.protocol.specs.Learners.{lrns}
 
@@ -27,9 +27,23 @@ alone m x = sameId (idOf x) (idOf m) || not (eqb (ballot x) (ballot m)) || isPro
 unfoldable pub formed1b : Message → Bool
 formed1b m = not (is1b m) || all (alone m) (tran m)
 
--- ---- definitions 20 and 23, row 15: "a 2a is well-formed if lrns is not empty"
-unfoldable pub formed2a : LearnerGraph → Message → Bool
-formed2a G m = not (is2a m) || any (lrns G m) (below (G .learners))
+-- ---- definition 23, row 15. lrns(u) = lrns(m)
+unfoldable pub sameLearners : LearnerGraph → Message → Message → Bool
+sameLearners G u m = all (λ a. Bool·beq (lrns G u a) (lrns G m a)) (below (G .learners))
 
+-- m repeats the vote u: its previous id names u, and u is a 2a of its ballot and with its learners
+unfoldable pub isRepeatOf : LearnerGraph → Message → Message → Bool
+isRepeatOf G m u = samePrevious (previous m) (some (idOf u)) && is2a u && eqb (ballot u) (ballot m) && sameLearners G u m
+
+-- its previous message is the one that its previous id names among its references; where there is none, m repeats nothing
+unfoldable pub repeats : LearnerGraph → Message → Bool
+repeats G m = any (isRepeatOf G m) (references m)
+
+-- "a 2a is well-formed if lrns is not empty"; and "a 2a whose previous message is a 2a of the same ballot is well-formed only if its lrns is not empty
+-- and differs from that one's"
+unfoldable pub formed2a : LearnerGraph → Message → Bool
+formed2a G m = not (is2a m) || (any (lrns G m) (below (G .learners)) && not (repeats G m))
+
+-- both: what is asked of z before it is sent. (Its chain, row 12, follows for every message that is sent.)
 unfoldable pub wellFormed : LearnerGraph → Message → Bool
-wellFormed G m = chained m && formed1b m && formed2a G m
+wellFormed G m = formed1b m && formed2a G m

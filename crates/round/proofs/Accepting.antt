@@ -23,7 +23,7 @@ use Rattle.round.specs.Round.{Round}
 use Rattle.round.specs.Limits.{maxHeld}
 use Rattle.round.specs.Holdings.{isKnown, tableOf, placeOf}
 use Rattle.round.specs.Rows.{idsFrom, referenceIds, previousId, orZero, voteRecord, messageOf, proposalRows, acceptorRows, firstOf}
-use Rattle.round.specs.Demands.{IdRule}
+use Rattle.round.specs.Premises.{IdRule}
 use Rattle.round.proofs.Step.{contentRead, contentIn, Records}
 use Rattle.round.proofs.Named.{place-some, place-canonical}
 use Rattle.round.proofs.Holding.{Storable}

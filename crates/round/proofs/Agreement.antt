@@ -20,7 +20,8 @@ use Rattle.round.specs.Round.{Round}
 use Rattle.round.specs.Holdings.{graphOf, tableOf, knownPlaces}
 use Rattle.round.specs.Answers.{decidedState, splitState, Page}
 use Rattle.round.specs.Lists.{Call, run, lastRound, accepted, written, pages}
-use Rattle.round.specs.Demands.{IdRule, Starts, SafeEdge, NoCollision, OneValue, AgreementOverLists}
+use Rattle.round.specs.Premises.{IdRule, Starts}
+use Rattle.round.specs.Demands.{SafeEdge, NoCollision, OneValue, AgreementOverLists}
 use Rattle.round.proofs.CallLaws.{CallLaws}
 use Rattle.round.proofs.TwoLists.{Both, first-list, second-list, first-free, second-free}
 use Rattle.round.proofs.Reached.{Reached}

@@ -7,15 +7,15 @@ use mathlib.Core.Option.{Option, none, some}
 use mathlib.Core.List.{List, [], _∷_, _++_, List·Memᴰ·head, List·Memᴰ·tail}
 use Prim.Native.Nat.{ℕ, _+_, _<_, _≤_}
 use native.Mathlib.Omega.{arith}
-use lib.Dec.{T, eqb, ltb, eqb→eq, eqb-refl, not-T}
+use lib.Dec.{T, eqb, ltb, eqb→eq, eqb-refl, T-not, not-T}
 use lib.ListN.{length, getD}
-use Rattle.base.specs.Tests.{_∈_, pick, any, all, below}
+use Rattle.base.specs.Tests.{_∈_, pick, any, all}
 use Rattle.base.proofs.Tests.{and-in, or-l, or-r, any-in, all-in, dec-T, neqb→ne, ne→neqb}
 use Rattle.message.specs.declared.Proposal.{Proposal}
 use Rattle.protocol.specs.Ids.{Id, sameId}
 use Rattle.protocol.specs.Message.{Message, idOf, isProposal, proposed, is1b, is2a, tran, largest, ballot}
-use Rattle.protocol.specs.Learners.{lrns}
-use Rattle.protocol.specs.WellFormed.{alone, formed1b, formed2a}
+use Rattle.protocol.specs.WellFormed.{alone, formed1b, wellFormed}
+use Rattle.protocol.proofs.WellFormed.{formed2a-law, wellFormed-law}
 use Rattle.protocol.specs.Table.{Table, Held, offers, says, at, heldId, offered, places, Ordered, tree, reach}
 use Rattle.protocol.proofs.Ids.{sameId-law}
 use Rattle.protocol.proofs.Message.{2a-law}
@@ -30,7 +30,7 @@ use Rattle.round.specs.Holdings.{graphOf, isVoting, idAt, isRecent, isPr
 use Rattle.round.specs.Rows.{placed, isKnownId, isAwaited, messageOf, proposalRows, firstOf}
 use Rattle.round.specs.Reply.{replyPlaces, replyBytes, replyRecord, isSent}
 use Rattle.round.specs.Delivery.{Result, sent, joins, processed, hold, entered, decidedBy, taken, delivery}
-use Rattle.round.specs.Demands.{Typed}
+use Rattle.round.specs.Premises.{Typed}
 use Rattle.round.specs.ShutOut.{NewBallotAnswered}
 use Rattle.round.proofs.Step.{Appends}
 use Rattle.round.proofs.Fitting.{Fitting, fits-out}
@@ -44,7 +44,7 @@ use Rattle.round.proofs.Bytes.{heldBallot, node-proposed}
 use Rattle.round.proofs.Admitted.{handed, proposal-none}
 use Rattle.round.proofs.Storing.{new-place}
 use Rattle.round.proofs.Answers.{number-replied}
-use Rattle.round.proofs.Forming.{sent-law}
+use Rattle.round.proofs.Answering.{sent-law}
 
 -- ---- in a table: place n holds a proposal of the largest ballot, and a vote at place v refers to it and to nothing later
 largest-below : (x : ℕ) (l : List Message) → 0 < x → ((y : Message) → y ∈ l → proposed y < x) → largest l < x
@@ -213,14 +213,15 @@ module _ (H : List ℕ → Id) (r : Round) (typed : Typed r) (fit : Fitting r) (
       }
 
   is-sent : T (isSent s (messageOf s vote))
-  unfolding formed2a places
+  unfolding places
   is-sent =
       let m = tree u (length (tableOf s)) in
-      sent-law s (messageOf s vote) .1
-      (subst (λ (x : Message). T (formed1b x) × T (formed2a (graphOf s) x)) (tree-end (tableOf s) vote ordered reply-inside) (
+      subst T (sym (sent-law s (messageOf s vote)))
+      (subst (λ (x : Message). T (wellFormed (graphOf s) x)) (tree-end (tableOf s) vote ordered reply-inside)
+      (wellFormed-law (graphOf s) m .1 (
         tops-1b u (r .held) (length (tableOf s)) (f .ballot) tops,
-        or-l (not (is2a m)) (any (lrns (graphOf s) m) (below (graphOf s .learners))) (not-2a u (r .held) (length (tableOf s)) (f .ballot) tops),
-      ))
+        formed2a-law (graphOf s) m .1 (λ two. absurd (T-not (is2a m) (not-2a u (r .held) (length (tableOf s)) (f .ballot) tops) two)),
+      )))
 
   answers : processed H s (r .held) .outcome ≡ outcome.Replied (length z)
   unfolding processed

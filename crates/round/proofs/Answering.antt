@@ -1,5 +1,5 @@
 -- After acceptance: nothing is sent, or one message is sent and held as awaiting its return.
-use mathlib.Core.Path.{_≡_, refl, sym, ap, _∙_}
+use mathlib.Core.Path.{_≡_, refl, sym, ap, subst, _∙_}
 use mathlib.Core.Logic.{_⊎_, inl, inr, _≢_}
 use mathlib.Core.Bool.{Bool, true, false}
 use mathlib.Core.Option.{none, some}
@@ -16,15 +16,18 @@ use Rattle.message.specs.declared.AcceptorMessage.{AcceptorMessage}
 use Rattle.message.specs.declared.Reading.{Reading}
 use Rattle.message.specs.declared.Reading.the-variants.{OfAcceptor, Refused}
 use Rattle.protocol.specs.Ids.{Id}
+use Rattle.protocol.specs.Message.{Message}
+use Rattle.protocol.specs.WellFormed.{wellFormed}
 use Rattle.protocol.specs.Table.{Held, heldId, heldPrevious, offered, places, joint, contentOf}
 use Rattle.round.specs.Round.{Round}
 use Rattle.round.specs.declared.Outcome.the-variants as outcome
 use Rattle.round.specs.Limits.{maxHeld, noPlace}
-use Rattle.round.specs.Holdings.{isVoting, idAt, named, tableOf}
+use Rattle.round.specs.Holdings.{graphOf, isVoting, idAt, named, tableOf}
 use Rattle.round.specs.Rows.{messageOf}
 use Rattle.round.specs.Reply.{replyPlaces, replyBytes, replyRecord, isSent}
 use Rattle.round.specs.Delivery.{Result, hold, withRecent, recentWith, sent, joins, answered, processed}
-use Rattle.round.specs.Demands.{IdRule, Typed, ReplySays}
+use Rattle.round.specs.Premises.{IdRule, Typed}
+use Rattle.round.specs.Demands.{ReplySays}
 use Rattle.round.proofs.Step.{contentRead, contentIn, Records, Same, Appends, Silent, Sends}
 use Rattle.round.proofs.Fitting.{Fitting, place-held}
 use Rattle.round.proofs.Chosen.{reply-some}
@@ -34,6 +37,11 @@ use Rattle.round.proofs.Records.{table-ids}
 use Rattle.round.proofs.Sending.{reply-inside, reply-canonical, reply-most, replyFields, reply-reads, reply-previous, reply-ids, reply-says}
 use Rattle.round.proofs.Recent.{RecentHolds, joined-size, joined-holds, sent-holds}
 use Rattle.round.proofs.Marking.{recent-typed, recent-fitting, named-placed, previous-fits, previous-named}
+
+-- ---- THE TEST before a reply: z is well-formed, as a 1b and as a 2a
+pub sent-law : (r : Round) (z : Message) → isSent r z ≡ wellFormed (graphOf r) z
+unfolding isSent
+sent-law r z = refl
 
 -- bytes that are read as an acceptor message are not refused
 pub acceptor-readable : (x : Reading) (m : AcceptorMessage) → x ≡ OfAcceptor m → (e : Refusal) → x ≢ Refused e
@@ -135,9 +143,9 @@ module _ (H : List ℕ → Id) (rule : IdRule H) (s : Round) (typed : Typed s) (
   unfolding heldId
   last = λ i. pick (ne-eqb (s .held) noPlace (λ e. absurd (omega arith)) i) none (some (hold-id s typed fit room h storable 0 i))
 
-  pub sends : Answers H s p (sent H s p z)
+  pub sends : T (isSent s (messageOf s h)) → Answers H s p (sent H s p z)
   unfolding offered
-  sends =
+  sends judged =
       let held = hold-appends s typed fit room h storable 0 .held in
       record {
         answers = inr (record {
@@ -150,6 +158,7 @@ module _ (H : List ℕ → Id) (rule : IdRule H) (s : Round) (typed : Typed s) (
           appends = appends;
           same = same;
           last = last;
+          formed = subst T (sent-law s (messageOf s h)) judged;
         });
         typed = recent-typed (hold s h 0) (hold-typed s typed fit room h storable 0) (s .held) (set (replicate maxHeld 0) (s .held) 1)
             (length-set (replicate maxHeld 0) (s .held) 1);
@@ -165,6 +174,6 @@ unfolding processed
 processing H rule s typed fit room p here =
     pick-answers H s p (isVoting s) (answered H s p (replyBytes s p)) (record { outcome = outcome.Accepted; round = s; reply = [] })
     (λ v. pick-answers H s p (isSent s (messageOf s (replyRecord s (H (replyBytes s p)) p))) (sent H s p (replyBytes s p)) (joins H s p)
-    (λ t. sends H rule s typed fit v (room v) p here)
+    (λ t. sends H rule s typed fit v (room v) p here t)
     (joined-recent H s typed fit p here))
     (quiet H s typed fit p here)

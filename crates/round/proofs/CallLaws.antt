@@ -15,7 +15,7 @@ use Rattle.round.specs.declared.Outcome.the-variants as outcome
 use Rattle.round.specs.Holdings.{graphOf, named}
 use Rattle.round.specs.Handed.{fits}
 use Rattle.round.specs.Delivery.{delivered, replied}
-use Rattle.round.specs.Demands.{Starts, Typed}
+use Rattle.round.specs.Premises.{Starts, Typed}
 use Rattle.round.proofs.Step.{StepLaw}
 
 -- a freshly opened round: the graph of the file, sound and with an acceptor in every listed quorum; nothing held and nothing sent

@@ -23,7 +23,8 @@ use Rattle.round.specs.Rows.{previousId}
 use Rattle.round.specs.Delivery.{Result, delivery, replied}
 use Rattle.round.specs.Answers.{outcomeNumber}
 use Rattle.round.specs.Lists.{Call, deliver, report, run, written}
-use Rattle.round.specs.Demands.{IdRule, Starts, Typed, Names, ChainFrom, ChainOfReplies}
+use Rattle.round.specs.Premises.{IdRule, Starts, Typed}
+use Rattle.round.specs.Demands.{Names, ChainFrom, ChainOfReplies}
 use Rattle.round.proofs.Step.{Silent, Sends, Step}
 use Rattle.round.proofs.Answers.{writtenBy, written-silent, written-refused, written-replied}
 use Rattle.round.proofs.CallLaws.{CallLaws}

@@ -17,7 +17,8 @@ use Rattle.round.specs.Holdings.{named}
 use Rattle.round.specs.Delivery.{delivery, replied}
 use Rattle.round.specs.Answers.{outcomeNumber}
 use Rattle.round.specs.Lists.{Call, deliver, report, after, run, lastRound, written}
-use Rattle.round.specs.Demands.{IdRule, Starts, Typed, ReplySays, OwnChained, ReplyIsChained, RecentHoldsVotes}
+use Rattle.round.specs.Premises.{IdRule, Starts, Typed}
+use Rattle.round.specs.Demands.{ReplySays, OwnChained, ReplyIsChained, RecentHoldsVotes}
 use Rattle.round.proofs.Answers.{writtenBy, written-refused, written-replied}
 use Rattle.round.proofs.Recent.{RecentHolds}
 use Rattle.round.proofs.OneDelivery.{tells}
@@ -29,7 +30,7 @@ use Rattle.round.proofs.Lists.{refused-or-not}
 chained-reply : (r : Round) (m : Id) (z : List ℕ) → RecentHolds r → ReplySays r m z → OwnChained (r .own) z
 chained-reply r m z inv (f, read, house, bay, own, last, refs) = (f, read, own, λ i e. refs i .1 (inr (inv .last i (sym last ∙ e))))
 
-written-cases : (o : Outcome) (buffer : List ℕ) (l : List (List ℕ)) (z : List ℕ) → z ∈ writtenBy buffer l (outcomeNumber o) → ((n : ℕ) × (o ≡ outcome.Replied n) × (z ≡ take n buffer)) ⊎ (z ∈ l)
+pub written-cases : (o : Outcome) (buffer : List ℕ) (l : List (List ℕ)) (z : List ℕ) → z ∈ writtenBy buffer l (outcomeNumber o) → ((n : ℕ) × (o ≡ outcome.Replied n) × (z ≡ take n buffer)) ⊎ (z ∈ l)
 written-cases (outcome.Refused e) buffer l z m = inr (subst (λ (x : List (List ℕ)). z ∈ x) (written-refused buffer l (outcome.Refused e) e refl) m)
 written-cases outcome.Accepted buffer l z m = inr m
 written-cases (outcome.Replied n) buffer l z m = step (subst (λ (x : List (List ℕ)). z ∈ x) (written-replied buffer l (outcome.Replied n) n refl) m)

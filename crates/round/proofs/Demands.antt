@@ -13,7 +13,9 @@ use Rattle.graphfile.proofs.Accepted.{acceptedIsSound, undirected-symmetric}
 use Rattle.graphfile.proofs.Peopled.{accepted-peopled}
 use Rattle.protocol.specs.Equations.{Peopled}
 use Rattle.protocol.specs.Theorems.{SoundGraph}
-use Rattle.round.specs.Demands.{AgreementOverLists, ChainOfReplies, DemandThree, ReachedFits, KnownBeneath, ValidityOverLists, SameCaughtOverLists, OneCaughtList}
+use Rattle.round.specs.Neighbours.{SameCaughtOverLists, OneCaughtList}
+use Rattle.round.specs.Votes.{FewReplies}
+use Rattle.round.specs.Demands.{AgreementOverLists, ChainOfReplies, DemandThree, ReachedFits, KnownBeneath, ValidityOverLists}
 use Rattle.round.proofs.CallLaws.{OpeningLaw, CallLaws}
 use Rattle.round.proofs.JustOpened.{opened-round}
 use Rattle.round.proofs.OneDelivery.{step}
@@ -24,6 +26,7 @@ use Rattle.round.proofs.Chain as chain
 use Rattle.round.proofs.Known as known
 use Rattle.round.proofs.Validity as validity
 use Rattle.round.proofs.November as november
+use Rattle.round.proofs.Votes as votes
 
 -- the graph of an accepted file
 sound-file : (file : List ℕ) → answerOf file ≡ Accepted → SoundGraph (viewOf (readingOf file .graph))
@@ -75,3 +78,6 @@ sameCaughtOverLists = november.sameCaughtOverLists callLaws
 
 pub oneCaughtList : OneCaughtList
 oneCaughtList = november.oneCaughtList callLaws
+
+pub fewReplies : FewReplies
+fewReplies = votes.fewReplies callLaws

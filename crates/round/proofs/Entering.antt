@@ -15,7 +15,8 @@ use Rattle.round.specs.Limits.{maxHeld, acceptorRoom, listening}
 use Rattle.round.specs.Holdings.{isVoting, idAt, named, isKnown, placeOf}
 use Rattle.round.specs.Rows.{placed}
 use Rattle.round.specs.Delivery.{Result, hold, returned, enteredIn, enteredAt, processed, entered}
-use Rattle.round.specs.Demands.{IdRule, Typed, RecentId, ReplySays}
+use Rattle.round.specs.Premises.{IdRule, Typed}
+use Rattle.round.specs.Demands.{RecentId, ReplySays}
 use Rattle.round.proofs.Step.{Arrives, Step}
 use Rattle.round.proofs.Named.{place-some}
 use Rattle.round.proofs.Fitting.{Fitting, fits-in, named-kept}

@@ -10,14 +10,12 @@ use native.Mathlib.Omega.{arith}
 use lib.Dec.{T, ltb, T-not}
 use lib.ListN.{length}
 use Rattle.base.specs.Tests.{_∈_, pick}
-use Rattle.base.proofs.Tests.{and-in, and-l, and-r, not-true}
-use Rattle.graph.specs.declared.Graph.{Graph}
+use Rattle.base.proofs.Tests.{not-true}
 use Rattle.graph.specs.Memory.{viewOf}
 use Rattle.message.specs.Reader.{reading}
 use Rattle.message.specs.Writer.{fronted}
 use Rattle.protocol.specs.Ids.{Id}
-use Rattle.protocol.specs.Message.{Message}
-use Rattle.protocol.specs.WellFormed.{formed1b, formed2a}
+use Rattle.protocol.specs.WellFormed.{wellFormed}
 use Rattle.protocol.specs.Table.{Held, says, heldId, offered}
 use Rattle.round.specs.Round.{Round}
 use Rattle.round.specs.declared.Outcome.the-variants as outcome
@@ -25,27 +23,23 @@ use Rattle.round.specs.Limits.{maxHeld, listening}
 use Rattle.round.specs.Holdings.{graphOf, isVoting, idAt, isProposalAt, tableOf, isKnown, placeOf}
 use Rattle.round.specs.Rows.{placed, orZero, isAwaited, messageOf}
 use Rattle.round.specs.Reply.{replyPlaces, replyBytes, replyRecord, isSent}
-use Rattle.round.specs.Delivery.{Result, hold, enteredIn, enteredAt, sent, joins, answered, processed, delivery}
+use Rattle.round.specs.Delivery.{recordRead, messageRead, knowing, Result, hold, enteredIn, enteredAt, sent, joins, answered, processed, delivery}
 use Rattle.round.specs.Answers.{outcomeNumber, hasReply}
-use Rattle.round.specs.Demands.{IdRule, Typed, RecentId}
-use Rattle.round.specs.ShutOut.{recordRead, messageRead, knowing, SentOff, SentNothing, Responds, AcceptedIsHeld, SentExactlyWhenFormed}
+use Rattle.round.specs.Premises.{IdRule, Typed}
+use Rattle.round.specs.Demands.{RecentId}
+use Rattle.round.specs.ShutOut.{SentOff, SentNothing, Responds, AcceptedIsHeld, SentExactlyWhenFormed}
 use Rattle.round.proofs.Step.{Appends}
 use Rattle.round.proofs.Fitting.{Fitting}
 use Rattle.round.proofs.Growing.{hold-appends}
 use Rattle.round.proofs.Order.{idsOf}
 use Rattle.round.proofs.Sending.{reply-canonical, reply-reads, reply-previous, reply-ids, reply-says}
 use Rattle.round.proofs.Recent.{joined-ids, sent-ids}
-use Rattle.round.proofs.Answering.{storable, appends, last}
+use Rattle.round.proofs.Answering.{sent-law, storable, appends, last}
 use Rattle.round.proofs.Accepting.{Accepts}
 use Rattle.round.proofs.Entering.{Entered, room, says-before, entering}
 use Rattle.round.proofs.OneDelivery.{taking}
 use Rattle.round.proofs.Answers.{taken-number, number-replied}
 use Rattle.round.proofs.Storing.{new-place, arrived-known}
-
--- ---- THE TEST before a reply: z is well-formed, as a 1b and as a 2a
-pub sent-law : (r : Round) (z : Message) → T (isSent r z) ↔ (T (formed1b z) × T (formed2a (graphOf r) z))
-unfolding isSent
-sent-law r z = (λ h. (search (and-l, and-r), search (and-l, and-r)), λ (one, two). search and-in)
 
 -- ---- the message that arrived, which has the record h: it is held behind the others, or awaited its return
 abbrev Holds : (List ℕ → Id) → Round → List ℕ → Held → Round → Type 0
@@ -94,13 +88,13 @@ module _ (H : List ℕ → Id) (rule : IdRule H) (r s : Round) (b : List ℕ) (p
       ∙ places-back (replyPlaces s p) (reply-canonical s (in′ .typed) (in′ .fitting) p (in′ .here))) i))
 
   abbrev Formed : Type 0
-  Formed = T (formed1b (messageRead H s z)) × T (formed2a (graphOf r) (messageRead H s z))
+  Formed = T (wellFormed (graphOf r) (messageRead H s z))
 
-  test : T (isSent s (messageOf s h)) ↔ Formed
+  test : isSent s (messageOf s h) ≡ wellFormed (graphOf r) (messageRead H s z)
   test =
-      subst (λ (x : Held). T (isSent s (messageOf s h)) ↔ (T (formed1b (messageOf s x)) × T (formed2a (graphOf r) (messageOf s x)))) (sym record-is)
-      (subst (λ (g : Graph). T (isSent s (messageOf s h)) ↔ (T (formed1b (messageOf s h)) × T (formed2a (viewOf g) (messageOf s h)))) (sym (in′ .arrives .same .graph))
-      (sent-law s (messageOf s h)))
+      let graph = sym (in′ .arrives .same .graph) in
+      let read = sym record-is in
+      sent-law s (messageOf s h) ∙ (λ i. wellFormed (viewOf (graph i)) (messageOf s (read i)))
 
   off : SentOff H s z (sent H s p z)
   unfolding heldId offered
@@ -138,12 +132,12 @@ module _ (H : List ℕ → Id) (rule : IdRule H) (r s : Round) (b : List ℕ) (p
       after i (inl x) = inl (in′ .recent .after i x)
       after i (inr (e, t)) = inr (e ∙ sym (in′ .recent .id), subst IsVote place t)
 
-  by : (c : Bool) → T c ↔ Formed → Responds H r s b (pick c (sent H s p z) (joins H s p))
+  by : (c : Bool) → c ≡ wellFormed (graphOf r) (messageRead H s z) → Responds H r s b (pick c (sent H s p z) (joins H s p))
   by c e =
       record {
         z = z;
         forms = says-before H r s b p in′ z (reply-says s (in′ .typed) (in′ .fitting) p (in′ .here));
-        exactly = exactly c e;
+        exactly = exactly c (subst (λ (x : Bool). T c ↔ T x) e (λ t. t, λ t. t));
         sent = sends c;
         silent = keeps c;
       }

@@ -18,7 +18,7 @@ use Rattle.round.specs.Limits.{maxHeld}
 use Rattle.round.specs.Holdings.{idAt, isProposalAt, referencesAt}
 use Rattle.round.specs.Handed.{placeFits, ownFits, refersBack}
 use Rattle.round.specs.Delivery.{hold, previousPlace}
-use Rattle.round.specs.Demands.{Typed}
+use Rattle.round.specs.Premises.{Typed}
 use Rattle.round.proofs.Step.{Same, Appends}
 use Rattle.round.proofs.Parts.{bytes-put}
 use Rattle.round.proofs.Fitting.{Fitting, Keeps, back-in, back-kept, place-more}

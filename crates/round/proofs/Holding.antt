@@ -18,7 +18,7 @@ use Rattle.round.specs.Limits.{maxHeld, noPlace}
 use Rattle.round.specs.Holdings.{idAt, named, previousAt, referencesAt, recordAt, tableOf}
 use Rattle.round.specs.Handed.{placeFits}
 use Rattle.round.specs.Delivery.{hold, previousPlace}
-use Rattle.round.specs.Demands.{Typed}
+use Rattle.round.specs.Premises.{Typed}
 use Rattle.round.proofs.Parts.{part-put, put-nothing, tabulate-cong}
 use Rattle.round.proofs.Fitting.{Fitting, Keeps, named-kept, record-kept}
 

@@ -22,7 +22,7 @@ use Rattle.round.specs.Limits.{maxHeld, noPlace, listening, ownAllowed}
 use Rattle.round.specs.Holdings.{named, tableOf, knownPlaces}
 use Rattle.round.specs.Handed.{graphFits, ownFits, fits}
 use Rattle.round.specs.Opening.{emptyRound, refusedOpening, openedWith, opened}
-use Rattle.round.specs.Demands.{Starts, Typed}
+use Rattle.round.specs.Premises.{Starts, Typed}
 use Rattle.round.proofs.Fitting.{Fitting, fits-in, place-none}
 use Rattle.round.proofs.Answers.{opened-number}
 use Rattle.round.proofs.GraphFits.{zeros-at, accepted-fits, own-fits}

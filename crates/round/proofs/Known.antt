@@ -18,7 +18,8 @@ use Rattle.round.specs.Round.{Round}
 use Rattle.round.specs.Holdings.{tableOf, isKnown, knownPlaces}
 use Rattle.round.specs.Answers.{Page}
 use Rattle.round.specs.Lists.{Call, run, lastRound, accepted, written, pages}
-use Rattle.round.specs.Demands.{IdRule, Starts, NoCollision, ReachedFits, KnownBeneath}
+use Rattle.round.specs.Premises.{IdRule, Starts}
+use Rattle.round.specs.Demands.{NoCollision, ReachedFits, KnownBeneath}
 use Rattle.round.proofs.Step.{contentIn, Readable}
 use Rattle.round.proofs.CallLaws.{CallLaws}
 use Rattle.round.proofs.Canonical.{table-size}

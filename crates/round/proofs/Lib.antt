@@ -69,8 +69,12 @@ pub mod Reporting
 pub mod TwoLists
 -- Demand 3: agreement over two lists
 pub mod Agreement
--- Every held message is chained, so both texts catch the same acceptors, in one round and in two
+-- Every held message of a round reached by calls is chained
+pub mod HeldChained
+-- So both texts catch the same acceptors, in one round and in two
 pub mod November
+-- How often our acceptor votes
+pub mod Votes
 -- The demands over lists of calls, with nothing left open
 pub mod Demands
 -- SHA-256 is an id rule

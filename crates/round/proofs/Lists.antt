@@ -22,7 +22,7 @@ use Rattle.round.specs.Holdings.{recordAt, tableOf, isKnown}
 use Rattle.round.specs.Delivery as given
 use Rattle.round.specs.Answers.{outcomeNumber, hasReply, replySize, isTaken, Page, reportedNumber, reportedPage}
 use Rattle.round.specs.Lists.{Call, deliver, report, Seen, delivery, reporting, seen, after, run, lastRound, accepted, written, pages}
-use Rattle.round.specs.Demands.{IdRule}
+use Rattle.round.specs.Premises.{IdRule}
 use Rattle.round.proofs.CallLaws.{Fresh, CallLaws}
 use Rattle.round.proofs.Answers.{number-taken, writtenBy, written-replied}
 use Rattle.round.proofs.Kept.{Kept, kept-nil}
@@ -42,12 +42,12 @@ written-here : (o : Outcome) (z buffer : List ℕ) (l : List (List ℕ)) → o �
 written-here o z buffer l e =
     subst (λ (x : List (List ℕ)). z ∈ x) (sym (written-replied (fronted z buffer) l o (length z) e)) (List·Memᴰ·head (sym (reply-in-front z buffer)))
 
-accepted-tail : (s : Seen) (l : List Seen) (m : List ℕ) → m ∈ accepted l → m ∈ accepted (s ∷ l)
+pub accepted-tail : (s : Seen) (l : List Seen) (m : List ℕ) → m ∈ accepted l → m ∈ accepted (s ∷ l)
 unfolding accepted
 accepted-tail (delivery b n buffer) l m i = pick-tail (isTaken n) b m (accepted l) i
 accepted-tail (reporting a n p) l m i = i
 
-written-tail : (s : Seen) (l : List Seen) (m : List ℕ) → m ∈ written l → m ∈ written (s ∷ l)
+pub written-tail : (s : Seen) (l : List Seen) (m : List ℕ) → m ∈ written l → m ∈ written (s ∷ l)
 unfolding written
 written-tail (delivery b n buffer) l m i = pick-tail (hasReply n) (take (replySize n) buffer) m (written l) i
 written-tail (reporting a n p) l m i = i
@@ -84,7 +84,7 @@ module _ (laws : CallLaws) (H : List ℕ → Id) (rule : IdRule H) (A W : List (
         subst (λ (t : Table). Kept H A W t (isKnown r)) (sym e) (kept-nil H A W (isKnown r));
   }
 
-  call-keeps : (r : Round) (c : Call) (l : List Seen) → Reached H A W r → Within (accepted (seen H r c ∷ l)) A → Within (written (seen H r c ∷ l)) W
+  pub call-keeps : (r : Round) (c : Call) (l : List Seen) → Reached H A W r → Within (accepted (seen H r c ∷ l)) A → Within (written (seen H r c ∷ l)) W
       → Reached H A W (after H r c) × Grows r (after H r c)
   unfolding accepted written
   call-keeps r (report a) l reached inA inW = (reached, grows-refl r)

@@ -19,7 +19,7 @@ use Rattle.round.specs.Holdings.{idAt, named, isKnown}
 use Rattle.round.specs.Handed.{placeFits, ownFits, refersBack}
 use Rattle.round.specs.Rows.{orZero}
 use Rattle.round.specs.Delivery.{previousPlace, returned, withRecent}
-use Rattle.round.specs.Demands.{Typed}
+use Rattle.round.specs.Premises.{Typed}
 use Rattle.round.proofs.Named.{Found, held-found}
 use Rattle.round.proofs.Fitting.{Fitting, place-cases, place-none, place-held}
 

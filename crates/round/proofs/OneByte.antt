@@ -21,7 +21,7 @@ use Rattle.round.specs.Holdings.{graphOf, isProposalAt, referencesAt, kn
 use Rattle.round.specs.Handed.{placeFits, refersBack, ownFits, fits}
 use Rattle.round.specs.Delivery.{refused, taken, delivery, delivered, withRecent}
 use Rattle.round.specs.Report.{told, reported}
-use Rattle.round.specs.Demands.{Is17, WidePlaceRefused, withPrevious, NoneInLastAndPrevious}
+use Rattle.round.specs.Row17.{Is17, WidePlaceRefused, withPrevious, NoneInLastAndPrevious}
 use Rattle.round.proofs.Fitting.{Fitting, fits-out, fits-in, back-out, place-cases, place-none}
 use Rattle.round.specs.Answers.{outcomeNumber, reportNumber}
 

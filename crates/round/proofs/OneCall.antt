@@ -30,7 +30,8 @@ use Rattle.round.specs.Handed.{fits}
 use Rattle.round.specs.Rows.{otherRound, referenceIds, previousId, voteRecord, messageOf, proposalRows, acceptorRows, firstOf}
 use Rattle.round.specs.Reply.{replyBytes, replyRecord, isSent}
 use Rattle.round.specs.Delivery.{Result, refused, sent, joins, answered, processed, hold, returned, entered, decidedBy, taken, delivery, delivered, replied}
-use Rattle.round.specs.Demands.{IdRule, Typed, AddressedTo, RefusedLeavesAll, ReplyInFront, OtherRoundRefused, ReplySays, ReplyReadsBack}
+use Rattle.round.specs.Premises.{IdRule, Typed}
+use Rattle.round.specs.Demands.{AddressedTo, RefusedLeavesAll, ReplyInFront, OtherRoundRefused, ReplySays, ReplyReadsBack}
 use Rattle.round.specs.Answers.{outcomeNumber}
 use Rattle.round.proofs.Answers.{refused-number, silent-number, replied-number}
 use Rattle.round.proofs.OneDelivery.{Kept, tells}

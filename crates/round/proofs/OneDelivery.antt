@@ -21,9 +21,8 @@ use Rattle.round.specs.Limits.{maxHeld, replyLen}
 use Rattle.round.specs.Holdings.{placeOf}
 use Rattle.round.specs.Handed.{fits}
 use Rattle.round.specs.Rows.{referenceIds, previousId, voteRecord, messageOf, proposalRows, acceptorRows, firstOf}
-use Rattle.round.specs.Delivery.{Result, refused, entered, decidedBy, taken, delivery}
-use Rattle.round.specs.Demands.{IdRule, Typed}
-use Rattle.round.specs.ShutOut.{recordRead}
+use Rattle.round.specs.Delivery.{recordRead, Result, refused, entered, decidedBy, taken, delivery}
+use Rattle.round.specs.Premises.{IdRule, Typed}
 use Rattle.round.proofs.Step.{StepLaw}
 use Rattle.round.proofs.Fitting.{Fitting, fits-out}
 use Rattle.round.proofs.Accepting.{Accepts, proposal-accepts, acceptor-accepts}

@@ -22,7 +22,7 @@ use Rattle.round.specs.Limits.{noPlace, listening, ownAllowed}
 use Rattle.round.specs.Handed.{ownFits, fits}
 use Rattle.round.specs.Opening.{Opened, emptyRound, refusedOpening, openedWith, opened}
 use Rattle.round.specs.Answers.{openingNumber}
-use Rattle.round.specs.Demands.{ForeignOwnRefused}
+use Rattle.round.specs.Row17.{ForeignOwnRefused}
 use Rattle.round.proofs.Fitting.{fits-out}
 use Rattle.round.proofs.Answers.{row-number}
 use Rattle.round.proofs.OneByte.{unfit-is-17}

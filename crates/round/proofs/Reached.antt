@@ -17,7 +17,7 @@ use Rattle.round.specs.declared.Outcome.{Outcome}
 use Rattle.round.specs.declared.Outcome.the-variants as outcome
 use Rattle.round.specs.Holdings.{tableOf, isKnown, placeOf}
 use Rattle.round.specs.Handed.{fits}
-use Rattle.round.specs.Demands.{Typed}
+use Rattle.round.specs.Premises.{Typed}
 use Rattle.round.specs.Delivery.{Result}
 use Rattle.round.proofs.Step.{Records, Same, Returns, Appends, Arrives, Silent, Sends, Step}
 use Rattle.round.proofs.Canonical.{place-there, table-size, place-law, Canonical, canonical-law}

@@ -18,7 +18,8 @@ use Rattle.round.specs.Round.{Round}
 use Rattle.round.specs.Limits.{maxHeld, noPlace}
 use Rattle.round.specs.Holdings.{idAt, named, isRecent, isProposalAt}
 use Rattle.round.specs.Delivery.{hold, withRecent, recentWith}
-use Rattle.round.specs.Demands.{Typed, RecentId}
+use Rattle.round.specs.Premises.{Typed}
+use Rattle.round.specs.Demands.{RecentId}
 use Rattle.round.proofs.Fitting.{Fitting, named-kept}
 use Rattle.round.proofs.Holding.{Storable, hold-is}
 use Rattle.round.proofs.Growing.{hold-keeps, hold-appends, hold-last, hold-kind, hold-id}

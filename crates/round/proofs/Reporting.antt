@@ -22,7 +22,7 @@ use Rattle.round.specs.Holdings.{graphOf, tableOf, knownPlaces, knownMes
 use Rattle.round.specs.Report.{reported}
 use Rattle.round.specs.Answers.{decidedState, splitState, Page}
 use Rattle.round.specs.Lists.{Call, run, lastRound, accepted, written, pages}
-use Rattle.round.specs.Demands.{IdRule, Starts}
+use Rattle.round.specs.Premises.{IdRule, Starts}
 use Rattle.round.proofs.Answers.{decided-page, split-page}
 use Rattle.round.proofs.CallLaws.{CallLaws}
 use Rattle.round.proofs.Canonical.{table-size}

@@ -28,7 +28,8 @@ use Rattle.round.specs.Holdings.{idAt, named, isRecent, placeOf}
 use Rattle.round.specs.Handed.{placeFits}
 use Rattle.round.specs.Rows.{referenceIds, previousId}
 use Rattle.round.specs.Reply.{inReply, orEmpty, joined, replyPlaces, replyBytes}
-use Rattle.round.specs.Demands.{Typed, RecentId, ReplySays}
+use Rattle.round.specs.Premises.{Typed}
+use Rattle.round.specs.Demands.{RecentId, ReplySays}
 use Rattle.round.proofs.Fitting.{Fitting, place-cases}
 use Rattle.round.proofs.Order.{Rising, idsOf}
 use Rattle.round.proofs.Chosen.{chosen-out, chosen-most, reply-covers, reply-some, id-size, reply-rising}

@@ -9,7 +9,7 @@ use Rattle.base.proofs.Bytes.{bytes-length}
 use Rattle.digest.specs.declared.State.{State}
 use Rattle.digest.specs.Preprocessing.{padded}
 use Rattle.digest.specs.Sha256.{hash, joined, sha256}
-use Rattle.round.specs.Demands.{Sha256IsIdRule}
+use Rattle.round.specs.Premises.{Sha256IsIdRule}
 
 octets-append : (a b : List ℕ) → Octets a → Octets b → Octets (a ++ b)
 octets-append [] b h k i = k i

@@ -13,16 +13,17 @@ use Rattle.message.specs.Reader.{reading}
 use Rattle.message.specs.declared.Reading.{Reading}
 use Rattle.message.specs.declared.Reading.the-variants.{OfProposer, OfAcceptor, Refused}
 use Rattle.protocol.specs.Ids.{Id}
-use Rattle.protocol.specs.WellFormed.{chained, formed1b}
+use Rattle.protocol.specs.WellFormed.{chained, formed1b, wellFormed}
 use Rattle.protocol.specs.Table.{Held, heldId, places, offered, nodeBy, tree, Content, plain, joint, contentOf}
 use Rattle.round.specs.Round.{Round}
 use Rattle.round.specs.declared.Outcome.{Outcome}
 use Rattle.round.specs.declared.Outcome.the-variants as outcome
-use Rattle.round.specs.Holdings.{isVoting, idAt, named, tableOf, isKnown, placeOf}
+use Rattle.round.specs.Holdings.{graphOf, isVoting, idAt, named, tableOf, isKnown, placeOf}
 use Rattle.round.specs.Handed.{fits}
 use Rattle.round.specs.Rows.{referenceIds, previousId}
 use Rattle.round.specs.Delivery.{Result, delivery}
-use Rattle.round.specs.Demands.{IdRule, Typed, Names}
+use Rattle.round.specs.Premises.{IdRule, Typed}
+use Rattle.round.specs.Demands.{Names}
 
 -- what bytes that were read say, as the content of a record
 abbrev pub contentRead : List ℕ → Reading → Content
@@ -99,6 +100,7 @@ pub record Sends (H : List ℕ → Id) (s t : Round) (o : Outcome) (reply : List
   pub appends : Appends s t record′ false
   pub same : Same s t
   pub last : named t (t .last) ≡ some (H reply)
+  pub formed : T (wellFormed (graphOf s) (nodeBy (tree (tableOf s)) record′))
 
 -- ---- the law of one delivery
 pub record Step (H : List ℕ → Id) (r : Round) (b : List ℕ) (d : Result) : Type 0 where

@@ -21,7 +21,8 @@ use Rattle.protocol.proofs.Table.{tree-proposal, reach-self, reach-step, tran-p
 use Rattle.round.specs.Round.{Round}
 use Rattle.round.specs.Holdings.{isProposalAt, tableOf, placeOf}
 use Rattle.round.specs.Rows.{idsFrom, referenceIds, previousId, orZero, acceptorRows, firstOf}
-use Rattle.round.specs.Demands.{Typed, grounded, arriving, AlwaysGrounded, formerRows, firstNumber, SameAcceptances}
+use Rattle.round.specs.Premises.{Typed}
+use Rattle.round.specs.FaultPage.{grounded, arriving, AlwaysGrounded, formerRows, firstNumber, SameAcceptances}
 use Rattle.round.proofs.Named.{place-some}
 use Rattle.round.proofs.Fitting.{Fitting, fits-out}
 use Rattle.round.proofs.Records.{table-offered}

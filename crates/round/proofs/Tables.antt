@@ -17,7 +17,7 @@ use Rattle.protocol.proofs.Table.{at-past, nothing-past}
 use Rattle.round.specs.Round.{Round}
 use Rattle.round.specs.Limits.{maxHeld}
 use Rattle.round.specs.Holdings.{idAt, isProposalAt, signerAt, previousAt, referencesAt, tableOf}
-use Rattle.round.specs.Demands.{Typed}
+use Rattle.round.specs.Premises.{Typed}
 use Rattle.round.proofs.Fitting.{Fitting, back-out}
 use Rattle.round.proofs.Records.{at-table}
 use Rattle.round.proofs.Canonical.{table-size}

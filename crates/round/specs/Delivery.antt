@@ -17,6 +17,7 @@ use Rattle.message.specs.declared.AcceptorMessage.{AcceptorMessage}
 use Rattle.message.specs.declared.Reading.{Reading}
 use Rattle.message.specs.declared.Reading.the-variants.{OfProposer, OfAcceptor, Refused}
 use Rattle.protocol.specs.Ids.{Id}
+use Rattle.protocol.specs.Message.{Message}
 use Rattle.protocol.specs.Table.{Held, offers, says}
 use Rattle.round.specs.Round.{Round}
 use Rattle.round.specs.declared.Outcome.{Outcome}
@@ -118,6 +119,20 @@ abbrev pub refused : Round → Refusal → Result
 refused r e = record { outcome = outcome.Refused e; round = r; reply = [] }
 
 module _ (H : List ℕ → Id) where
+  -- ---- the record of the message that the bytes b say, over the messages that r holds (bytes that do not read say none)
+  abbrev pub recordRead : Round → List ℕ → Reading → Held
+  recordRead r b (OfProposer f) = offers (H b) (f .proposer) (f .ballot)
+  recordRead r b (OfAcceptor f) = voteRecord r (H b) (f .signer) (previousId b f) (referenceIds b f)
+  recordRead r b (Refused e) = offers [] 0 0
+
+  -- this message
+  abbrev pub messageRead : Round → List ℕ → Message
+  messageRead r b = messageOf r (recordRead r b (reading b))
+
+  -- r once it is known
+  abbrev pub knowing : Round → List ℕ → Round
+  knowing r b = enteredIn r (recordRead r b (reading b)) (placeOf r (H b))
+
   -- ---- after acceptance: r holds the message at place p
   -- "If z is well-formed it is written to the reply buffer, held as awaiting return, becomes last sent, and recent becomes {z}."
   abbrev pub sent : Round → ℕ → List ℕ → Result

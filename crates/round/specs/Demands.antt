@@ -3,69 +3,33 @@
 use mathlib.Core.Path.{_≡_}
 use mathlib.Core.Logic.{_≢_, _⊎_}
 use mathlib.Core.Bool.{Bool, not}
-use mathlib.Core.Option.{Option, none, some, Option·map}
+use mathlib.Core.Option.{Option, none, some}
 use mathlib.Core.List.{List, [], _∷_, _++_, map}
-use Prim.Native.Nat.{ℕ, _+_, _<_, _≤_, _*_}
+use Prim.Native.Nat.{ℕ, _+_, _<_}
 use lib.Dec.{T}
-use lib.ListN.{length, getD, take, drop, set}
-use Rattle.base.specs.Tests.{_∈_, pick, any}
+use lib.ListN.{take, drop}
+use Rattle.base.specs.Tests.{_∈_}
 use Rattle.base.specs.Refusals.{numberOf}
 use Rattle.base.specs.declared.refusal.Refusal.{Refusal}
 use Rattle.base.specs.Ballots.{valueOf}
 use Rattle.digest.specs.Sha256.{sha256}
-use Rattle.graph.specs.Answers.{answerNumber}
 use Rattle.graph.specs.LearnerGraph.{LearnerGraph, isSafe}
-use Rattle.graphfile.specs.File.{answerOf}
-use Rattle.graphfile.specs.Arrays.{readingOf}
-use Rattle.message.specs.Layout.{idLen}
 use Rattle.message.specs.Reader.{reading}
 use Rattle.message.specs.declared.Proposal.{Proposal}
 use Rattle.message.specs.declared.AcceptorMessage.{AcceptorMessage}
 use Rattle.message.specs.declared.Reading.the-variants.{OfProposer, OfAcceptor}
 use Rattle.protocol.specs.Ids.{Id}
-use Rattle.protocol.specs.Message.{Message, isProposal, tran, caught}
-use Rattle.protocol.specs.November.{caughtNovember}
+use Rattle.protocol.specs.Message.{Message}
 use Rattle.protocol.specs.Table.{tree, reach}
 use Rattle.round.specs.Round.{Round}
-use Rattle.round.specs.Limits.{maxHeld, noPlace, listening}
-use Rattle.round.specs.Holdings.{graphOf, idAt, named, isProposalAt, referencesAt, isRecent, tableOf, knownPlaces}
+use Rattle.round.specs.Limits.{listening}
+use Rattle.round.specs.Holdings.{graphOf, idAt, named, isProposalAt, isRecent, tableOf, knownPlaces}
 use Rattle.round.specs.Handed.{fits}
-use Rattle.round.specs.Opening.{opened}
-use Rattle.round.specs.Rows.{referenceIds, previousId, otherRound, foreign, isKnownId, lacks, unchained, voteRecord, messageOf, malformed1b, malformed2a, full, proposalRows, acceptorRows, firstOf}
-use Rattle.round.specs.Delivery.{delivered, replied, withRecent}
-use Rattle.round.specs.Answers.{openingNumber, withReply, isTaken, decidedState, splitState, Page, deliveryNumber, reportedNumber}
+use Rattle.round.specs.Rows.{referenceIds, previousId, proposalRows, acceptorRows}
+use Rattle.round.specs.Delivery.{delivered, replied}
+use Rattle.round.specs.Answers.{withReply, isTaken, decidedState, splitState, Page, deliveryNumber}
 use Rattle.round.specs.Lists.{Call, run, lastRound, accepted, written, pages}
-
--- an id is 32 bytes
-pub record IdRule (H : List ℕ → Id) : Type 0 where
-  pub size : (b : List ℕ) → length (H b) ≡ 32
-  pub bytes : (b : List ℕ) (i : ℕ) → getD (H b) i 0 < 256
-
--- so it is with SHA-256
-abbrev pub Sha256IsIdRule : Type 0
-Sha256IsIdRule = IdRule sha256
-
--- an opening that was not refused, of numbers that the call's types can hold
-pub record Starts (file : List ℕ) (house bay own : ℕ) (r : Round) : Type 0 where
-  pub opens : openingNumber (opened file house bay own .answer) ≡ 0
-  pub gives : r ≡ opened file house bay own .round
-  pub houseFits : house < 65536
-  pub bayFits : bay < 65536
-
--- the numbers that the types of a round's fields can hold
-pub record Typed (r : Round) : Type 0 where
-  pub houseFits : r .house < 65536
-  pub bayFits : r .bay < 65536
-  pub idsSize : length (r .ids) ≡ idLen * maxHeld
-  pub kindsSize : length (r .kinds) ≡ maxHeld
-  pub signersSize : length (r .signers) ≡ maxHeld
-  pub ballotsSize : length (r .ballots) ≡ maxHeld
-  pub previousSize : length (r .previous) ≡ maxHeld
-  pub countsSize : length (r .counts) ≡ maxHeld
-  pub referencesSize : length (r .references) ≡ maxHeld * maxHeld
-  pub knownSize : length (r .known) ≡ maxHeld
-  pub recentSize : length (r .recent) ≡ maxHeld
-  pub idBytes : (i : ℕ) → getD (r .ids) i 0 < 256
+use Rattle.round.specs.Premises.{IdRule, Starts, Typed}
 
 -- the house and bay that bytes name
 abbrev pub AddressedTo : List ℕ → ℕ → ℕ → Type 0
@@ -212,125 +176,3 @@ ReplySays r m z = (f : AcceptorMessage) × (reading z ≡ OfAcceptor f)
 abbrev pub ReplyReadsBack : Type 0
 ReplyReadsBack = (H : List ℕ → Id) → IdRule H → (r : Round) → Typed r → (b buffer : List ℕ) (n : ℕ)
     → deliveryNumber H r b buffer ≡ withReply + n → ReplySays r (H b) (take n (replied H r b buffer))
-
--- ---- A SHORTER FAULT PAGE: what let row 13, "no proposal in Tran", be struck
--- a proposal lies beneath m
-abbrev pub grounded : Message → Bool
-grounded m = any isProposal (tran m)
-
--- the acceptor message that the bytes b say, over the messages that r holds
-abbrev pub arriving : (List ℕ → Id) → Round → List ℕ → AcceptorMessage → Message
-arriving H r b f = messageOf r (voteRecord r (H b) (f .signer) (previousId b f) (referenceIds b f))
-
--- "An acceptor message has a reference, each reference is to a known message, so a proposal always lies beneath."
-abbrev pub GroundedIn : (List ℕ → Id) → Round → Type 0
-GroundedIn H r = (b : List ℕ) (f : AcceptorMessage) → reading b ≡ OfAcceptor f
-    → T (not (lacks r (referenceIds b f))) → T (grounded (arriving H r b f))
-
--- "Show this for every round that passes 17": of a `Typed` one, whose table has each reference that a count names. A round in bytes always is
--- (StruckInBytes of hpaxos).
-abbrev pub AlwaysGrounded : Type 0
-AlwaysGrounded = (H : List ℕ → Id) (r : Round) → Typed r → T (fits r) → GroundedIn H r
-
--- the table as it was: rows 8 to 16 of an acceptor message, each test with its number; the rows of a proposal are those that they were
-unfoldable pub formerRows : Round → Id → AcceptorMessage → Option Id → List Id → Message → List (Bool × ℕ)
-formerRows r i m previous ids tree =
-    (otherRound r (m .house) (m .bay), 8)
-    ∷ (foreign r (m .signer), 9)
-    ∷ (isKnownId r i, 10)
-    ∷ (lacks r ids, 11)
-    ∷ (unchained r (m .signer) ids previous, 12)
-    ∷ (not (grounded tree), 13)
-    ∷ (malformed1b r tree, 14)
-    ∷ (malformed2a r tree, 15)
-    ∷ (full r i, 16)
-    ∷ []
-
--- the number of the first row that applies
-unfoldable pub firstNumber : List (Bool × ℕ) → Option ℕ
-firstNumber [] = none
-firstNumber ((applies, n) ∷ l) = pick applies (some n) (firstNumber l)
-
--- "Growers see the same acceptances as before": a message is turned down by the row that turned it down before, or by none where none did
-abbrev pub SameRowIn : (List ℕ → Id) → Round → Type 0
-SameRowIn H r = (b : List ℕ) (f : AcceptorMessage) → reading b ≡ OfAcceptor f
-    → firstNumber (formerRows r (H b) f (previousId b f) (referenceIds b f) (arriving H r b f))
-    ≡ Option·map numberOf (firstOf (acceptorRows r (H b) f (previousId b f) (referenceIds b f) (arriving H r b f)))
-
-abbrev pub SameAcceptances : Type 0
-SameAcceptances = (H : List ℕ → Id) (r : Round) → Typed r → T (fits r) → SameRowIn H r
-
--- ---- a round that is 17 in every call on it, whatever else is given or lent
-abbrev pub Is17 : Round → Type 0
-Is17 r = ((H : List ℕ → Id) (b buffer : List ℕ) → deliveryNumber H r b buffer ≡ 17) × ((a : ℕ) → reportedNumber r a ≡ 17)
-
--- ---- THE OWN NUMBER: "own acceptor number not in the graph" is 17, given to an opening whose file is accepted or handed in with a round. 256 alone
--- stands for none, so a larger number is like any other that the graph lacks.
-abbrev pub ForeignOwnRefused : Type 0
-ForeignOwnRefused =
-    ((file : List ℕ) (house bay own : ℕ) → answerNumber (answerOf file) ≡ 0 → readingOf file .graph .acceptors ≤ own → own ≢ listening
-    → openingNumber (opened file house bay own .answer) ≡ 17)
-    × ((r : Round) → r .graph .acceptors ≤ r .own → r .own ≢ listening → Is17 r)
-
--- ---- PLACES IN ONE BYTE: what row 17 says of places (how wide each is in a round's bytes: roundbytes/specs/ByteWidths)
--- "a reference place of 128 to 255 handed in is still 17": reference i of the held acceptor message at place p, whatever else the round holds and
--- whatever is asked of it
-abbrev pub WidePlaceRefused : Type 0
-WidePlaceRefused = (r : Round) (p i : ℕ) → p < r .held → T (not (isProposalAt r p)) → maxHeld ≤ getD (referencesAt r p) i 0 → Is17 r
-
--- r with q as the place of the previous message of place p
-abbrev pub withPrevious : Round → ℕ → ℕ → Round
-withPrevious r p q =
-    record {
-      graph = r .graph;
-      house = r .house;
-      bay = r .bay;
-      own = r .own;
-      held = r .held;
-      last = r .last;
-      ids = r .ids;
-      kinds = r .kinds;
-      signers = r .signers;
-      ballots = r .ballots;
-      previous = set (r .previous) p q;
-      counts = r .counts;
-      references = r .references;
-      known = r .known;
-      recent = r .recent;
-    }
-
--- 255 names no message. In last sent and in previous it may stand, and no other number from 128 on; as a reference none of them may.
-pub record NoneInTwo (r : Round) : Type 0 where
-  pub nameless : named r noPlace ≡ none
-  pub lastMay : T (fits (withRecent r noPlace (r .recent)))
-  pub previousMay : (p : ℕ) → T (fits (withPrevious r p noPlace))
-  pub last : (r .last ≡ noPlace) ⊎ (r .last < maxHeld)
-  pub previous : (p : ℕ) → p < r .held → (getD (r .previous) p 0 ≡ noPlace) ⊎ (getD (r .previous) p 0 < maxHeld)
-  pub references : (p i : ℕ) → p < r .held → T (not (isProposalAt r p)) → getD (referencesAt r p) i 0 < maxHeld
-
-abbrev pub NoneInLastAndPrevious : Type 0
-NoneInLastAndPrevious = (r : Round) → T (fits r) → NoneInTwo r
-
--- ---- NEIGHBOURS ON THE NOVEMBER TEXT (protocol/specs/November)
--- at every place, known or awaiting its return, and for every acceptor number, both texts give one answer
-abbrev pub SameCaughtIn : Round → Type 0
-SameCaughtIn r = (p a : ℕ) → p < r .held → caughtNovember (tree (tableOf r) p) a ≡ caught (tree (tableOf r) p) a
-
--- "for every message of every round reached from an opening, taken over acceptor messages, with no two different messages of one id, both texts catch
--- the same acceptors"
-abbrev pub SameCaughtOverLists : Type 0
-SameCaughtOverLists = (H : List ℕ → Id) → IdRule H → (file : List ℕ) (house bay own : ℕ) (r : Round) → Starts file house bay own r
-    → (l : List Call) → NoCollision H (accepted (run H r l) ++ written (run H r l)) → SameCaughtIn (lastRound H r l)
-
--- where two rounds hold a message with one id, at place p and at place q, the November text, read in the one, catches in it whom the report catches in
--- the other
-abbrev pub OneCaughtIn : Round → Round → Type 0
-OneCaughtIn r s = (p q : ℕ) → p < r .held → q < s .held → idAt r p ≡ idAt s q → (a : ℕ) → caughtNovember (tree (tableOf r) p) a ≡ caught (tree (tableOf s) q) a
-
--- "Growers on mixed sites may then rely on one list of caught controllers": so it is of two rounds of one house and bay, under whatever plans
-abbrev pub OneCaughtList : Type 0
-OneCaughtList = (H : List ℕ → Id) → IdRule H → (fileA fileB : List ℕ) (house bay ownA ownB : ℕ) (rA rB : Round)
-    → Starts fileA house bay ownA rA → Starts fileB house bay ownB rB
-    → (lA lB : List Call)
-    → NoCollision H ((accepted (run H rA lA) ++ accepted (run H rB lB)) ++ (written (run H rA lA) ++ written (run H rB lB)))
-    → OneCaughtIn (lastRound H rA lA) (lastRound H rB lB)

@@ -16,7 +16,7 @@ use Rattle.round.specs.Rows.{messageOf}
 use Rattle.round.specs.Report.{told}
 use Rattle.round.specs.Answers.{pageOf, reportedNumber, reportedPage}
 use Rattle.round.specs.Lists.{Call, lastRound}
-use Rattle.round.specs.Demands.{IdRule, Starts}
+use Rattle.round.specs.Premises.{IdRule, Starts}
 
 -- ---- the messages that it holds
 -- references are to earlier places

@@ -14,12 +14,10 @@ use Rattle.message.specs.Layout.{outerLen, acceptorLen}
 use Rattle.message.specs.Reader.{reading}
 use Rattle.message.specs.declared.Proposal.{Proposal}
 use Rattle.message.specs.declared.AcceptorMessage.{AcceptorMessage}
-use Rattle.message.specs.declared.Reading.{Reading}
-use Rattle.message.specs.declared.Reading.the-variants.{OfProposer, OfAcceptor, Refused}
+use Rattle.message.specs.declared.Reading.the-variants.{OfProposer, OfAcceptor}
 use Rattle.protocol.specs.Ids.{Id}
 use Rattle.protocol.specs.Message.{Message}
-use Rattle.protocol.specs.WellFormed.{formed1b, formed2a}
-use Rattle.protocol.specs.Table.{Held, offers}
+use Rattle.protocol.specs.WellFormed.{formed1b, formed2a, wellFormed}
 use Rattle.protocol.specs.Report.{decides}
 use Rattle.protocol.specs.Equations.{Peopled}
 use Rattle.round.specs.Round.{Round}
@@ -27,9 +25,10 @@ use Rattle.round.specs.Limits.{acceptorRoom, replyLen}
 use Rattle.round.specs.Holdings.{graphOf, isVoting, named, isProposalAt, tableOf, isKnown, knownMessages, placeOf}
 use Rattle.round.specs.Handed.{fits}
 use Rattle.round.specs.Rows.{referenceIds, previousId, placed, isKnownId, isAwaited, lacks, unchained, voteRecord, messageOf, room}
-use Rattle.round.specs.Delivery.{enteredIn, Result, delivery, delivered, replied}
+use Rattle.round.specs.Delivery.{recordRead, messageRead, knowing, Result, delivery, delivered, replied}
 use Rattle.round.specs.Answers.{withReply, outcomeNumber, hasReply, isTaken, undecidedState, deliveryNumber, reportedNumber, reportedPage}
-use Rattle.round.specs.Demands.{IdRule, Typed, RecentId, ReplySays}
+use Rattle.round.specs.Premises.{IdRule, Typed}
+use Rattle.round.specs.Demands.{RecentId, ReplySays}
 
 -- a delivery is not turned down
 abbrev pub NotRefused : (List ℕ → Id) → Round → List ℕ → List ℕ → Type 0
@@ -66,20 +65,6 @@ abbrev pub AcceptedIsKnown : Type 0
 AcceptedIsKnown = (H : List ℕ → Id) → IdRule H → (r : Round) → Typed r → (b buffer : List ℕ) → NotRefused H r b buffer
     → T (isKnownId (delivered H r b buffer .round) (H b))
     × ((i : Id) → T (isKnownId r i) → T (isKnownId (delivered H r b buffer .round) i))
-
--- the record of the message that the bytes b say, over the messages that r holds (bytes that do not read say none)
-abbrev pub recordRead : (List ℕ → Id) → Round → List ℕ → Reading → Held
-recordRead H r b (OfProposer f) = offers (H b) (f .proposer) (f .ballot)
-recordRead H r b (OfAcceptor f) = voteRecord r (H b) (f .signer) (previousId b f) (referenceIds b f)
-recordRead H r b (Refused e) = offers [] 0 0
-
--- this message
-abbrev pub messageRead : (List ℕ → Id) → Round → List ℕ → Message
-messageRead H r b = messageOf r (recordRead H r b (reading b))
-
--- r once it is known
-abbrev pub knowing : (List ℕ → Id) → Round → List ℕ → Round
-knowing H r b = enteredIn r (recordRead H r b (reading b)) (placeOf r (H b))
 
 -- m, by the bytes b, is known in s, which holds what r holds, and m behind it unless m awaited its return
 pub record Stores (H : List ℕ → Id) (r s : Round) (b : List ℕ) : Type 0 where
@@ -131,7 +116,7 @@ pub record Responds (H : List ℕ → Id) (r s : Round) (b : List ℕ) (d : Resu
   pub z : List ℕ
   pub forms : ReplySays r (H b) z
   -- a reply is sent exactly where z, be it a 1b or a 2a, is well-formed;
-  pub exactly : T (hasReply (outcomeNumber (d .outcome))) ↔ (T (formed1b (messageRead H s z)) × T (formed2a (graphOf r) (messageRead H s z)))
+  pub exactly : T (hasReply (outcomeNumber (d .outcome))) ↔ T (wellFormed (graphOf r) (messageRead H s z))
   -- it is z, and otherwise m joins recent
   pub sent : T (hasReply (outcomeNumber (d .outcome))) → SentOff H s z d
   pub silent : T (not (hasReply (outcomeNumber (d .outcome)))) → SentNothing r s (H b) d

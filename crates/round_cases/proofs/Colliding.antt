@@ -21,7 +21,7 @@ use Rattle.message.specs.Order.{before, ascending}
 use Rattle.protocol.specs.Ids.{Id, sameId, samePrevious}
 use Rattle.protocol.specs.Message.{listed, idOf, signer, previous, references, isProposal, proposed, is1b, is2a, signers, tran, trans, largest, ballot, value, forks, caughtIn, caught}
 use Rattle.protocol.specs.Learners.{con, buriedBy, con2asBy, freshBy, backersBy, lrnsBy, height, heights, lrnsIn, lrns}
-use Rattle.protocol.specs.WellFormed.{isPrevious, linked, chained, alone, formed1b, formed2a}
+use Rattle.protocol.specs.WellFormed.{isPrevious, linked, chained, alone, formed1b, sameLearners, isRepeatOf, repeats, formed2a, wellFormed}
 use Rattle.protocol.specs.Table.{at, tabulate, gather, nodeBy, treeIn, tree}
 use Rattle.protocol.specs.November.{prevTran, inPrevTran, unconnected, caughtNovember}
 use Rattle.round.specs.Round.{Round}
@@ -32,7 +32,8 @@ use Rattle.round.specs.Rows.{idsFrom, lacks, unchained, proposalRows, acceptorR
 use Rattle.round.specs.Reply as reply
 use Rattle.round.specs.Delivery.{delivery, processed, hold}
 use Rattle.round.specs.Lists.{Call, deliver, lastRound}
-use Rattle.round.specs.Demands.{IdRule, Starts, SameCaughtIn}
+use Rattle.round.specs.Premises.{IdRule, Starts}
+use Rattle.round.specs.Neighbours.{SameCaughtIn}
 use Rattle.round.specs.Answers.{openingNumber}
 use Rattle.round_cases.specs.Cases.{four, thirds, G1, proposalFor, buffer, start}
 
@@ -77,7 +78,7 @@ unfoldable end : Round
 end = lastRound H (start G1 0) calls
 
 computed : T (ltb 8 (end .held)) × T (caughtNovember (tree (tableOf end) 8) 0) × T (not (caught (tree (tableOf end) 8) 0))
-unfolding ofProposal ofVote number H z₁ vote₁ calls end lastRound four thirds G1 proposalFor buffer start any all filter below has contains apart be bytes isQuorum isSafe safeWithout common validAt valid condensedAt condensed last readMasks readList readLists readRows readGraph contents graphSaid triangle pairList listOf holdAll holdRows heldOf before ascending sameId samePrevious listed idOf signer previous references isProposal proposed is1b is2a signers tran trans largest ballot valueOf value forks caughtIn caught prevTran inPrevTran unconnected caughtNovember con buriedBy con2asBy freshBy backersBy lrnsBy height heights lrnsIn lrns isPrevious linked chained alone formed1b formed2a at tabulate gather nodeBy treeIn tree lowest placeOf listFits graphFits ownFits refersBack messageFits fits idsFrom lacks unchained proposalRows acceptorRows firstOf delivery processed hold opened reply.chosen reply.insert reply.chosenOf reply.joined reply.replyBytes reply.isSent
+unfolding ofProposal ofVote number H z₁ vote₁ calls end lastRound four thirds G1 proposalFor buffer start any all filter below has contains apart be bytes isQuorum isSafe safeWithout common validAt valid condensedAt condensed last readMasks readList readLists readRows readGraph contents graphSaid triangle pairList listOf holdAll holdRows heldOf before ascending sameId samePrevious listed idOf signer previous references isProposal proposed is1b is2a signers tran trans largest ballot valueOf value forks caughtIn caught prevTran inPrevTran unconnected caughtNovember con buriedBy con2asBy freshBy backersBy lrnsBy height heights lrnsIn lrns isPrevious linked chained alone formed1b sameLearners isRepeatOf repeats formed2a wellFormed at tabulate gather nodeBy treeIn tree lowest placeOf listFits graphFits ownFits refersBack messageFits fits idsFrom lacks unchained proposalRows acceptorRows firstOf delivery processed hold opened reply.chosen reply.insert reply.chosenOf reply.joined reply.replyBytes reply.isSent
 computed = (tt, tt, tt)
 
 -- ---- the rule gives 32 bytes

@@ -1,4 +1,5 @@
--- The starred cases of document 01, as one table: what is delivered to which round, and what is expected of it.
+-- The starred cases of document 01, and the sample round of request 1 of document 02, as one table: what is delivered to which round, and what is
+-- expected of it.
 use mathlib.Core.Bool.{Bool}
 use mathlib.Core.List.{List, [], _∷_, _++_}
 use Prim.Native.Nat.{ℕ, _+_}
@@ -15,7 +16,7 @@ use Rattle.protocol.specs.Learners.{lrns}
 use Rattle.protocol.specs.Table.{tree}
 use Rattle.round.specs.Round.{Round}
 use Rattle.round.specs.Limits.{replyLen}
-use Rattle.round.specs.Holdings.{graphOf, tableOf}
+use Rattle.round.specs.Holdings.{graphOf, tableOf, isRecent}
 use Rattle.round.specs.Opening.{opened}
 use Rattle.round.specs.Delivery.{Result, delivery}
 use Rattle.round.specs.Answers.{openingNumber, withReply, outcomeNumber, undecidedState, decidedState, reportedNumber, reportedPage}
@@ -129,6 +130,14 @@ cases =
     ∷ is (reportedNumber (sample3 .round) 0) 0
     ∷ is (reportedPage (sample3 .round) 0 .state) decidedState
     ∷ is (valueOf (reportedPage (sample3 .round) 0 .least)) 70
+    -- request 1: "In the sample round, z2 returning gives no reply and joins recent." Nothing more is held, and recent holds z2, place 2, alone.
+    ∷ is (outcomeNumber (sample3 .outcome)) 0
+    ∷ is (sample3 .round .held) 3
+    ∷ is (bit (isRecent (sample3 .round) 0)) 0
+    ∷ is (bit (isRecent (sample3 .round) 1)) 0
+    ∷ is (bit (isRecent (sample3 .round) 2)) 1
+    -- "15 also covers the repeated vote": signer 0, previous z2, reference z2
+    ∷ is (outcomeNumber (deliver (sample3 .round) (vote (H z2) 1 (H z2)) .outcome)) 15
     -- "A proposal with round number 3 then gives no reply. z1 again is 10."
     ∷ is (outcomeNumber (deliver (sample3 .round) (proposalFor 1 3) .outcome)) 0
     ∷ is (outcomeNumber (deliver (sample3 .round) z1 .outcome)) 10

@@ -1,6 +1,7 @@
 // Runs document 01's sample rounds and its rows for rounds, and prints how many failed.
 // The bytes and the numbers expected are written out from the document, not made by the library.
 use base::put_all;
+use base::wide;
 use calls::Round;
 use calls::Step;
 use calls::after;
@@ -28,6 +29,7 @@ use roundbytes::COUNTS_AT;
 use roundbytes::HELD_AT;
 use roundbytes::LAST_AT;
 use roundbytes::OWN_AT;
+use roundbytes::RECENT_AT;
 use roundbytes::REFERENCES_AT;
 
 mod calls;
@@ -59,7 +61,7 @@ struct Tally {
 
 fn main() {
     let none = Tally { run: 0, failed: 0 };
-    let rounds = waiting(quorums(splits(bound(decision(samples(none))))));
+    let rounds = waiting(quorums(splits(bound(decision(returned(samples(none)))))));
     let rows = under_g1(chains(references(known(readings(rounds)))));
     let limits = full_voting(full_listening(rows));
     let t = handed(buffers(learners(openings(limits))));
@@ -127,6 +129,22 @@ fn after_z1() -> Round {
     after(after(start(&g0(), 0), &p()), &z1())
 }
 
+// z2 returns to its sender. It has no reply, since another vote would have the same learners; nothing more is held, and recent holds z2, place 2,
+// alone. Nor does anybody take such a vote, which refers to z2 and names it.
+fn returned(t0: Tally) -> Tally {
+    let r2 = after_z1();
+    let mut t = no_reply(t0, r2, &z2(), 0);
+    let r3 = after(r2, &z2());
+    t = tried(t, wide(r3.bytes[HELD_AT]), 3);
+    t = tried(t, wide(r3.bytes[RECENT_AT]), 0);
+    t = tried(t, wide(r3.bytes[RECENT_AT + 1]), 0);
+    t = tried(t, wide(r3.bytes[RECENT_AT + 2]), 1);
+    let id = sha256(&z2());
+    t = no_reply(t, r3, &next_vote(0, id, id), 15);
+    // What its sender says next refers to z2 and names it.
+    replied(t, r3, &proposal(6, 70), REPLY + 107, &joined(70))
+}
+
 // The sample round goes on: z2 decides.
 fn decision(t0: Tally) -> Tally {
     let r3 = after(after_z1(), &z2());
@@ -143,8 +161,8 @@ fn joined(value: u8) -> [u8; 107] {
     joined_vote(id, sha256(&proposal(6, value)), id)
 }
 
-// Round number 6 with this value, for an acceptor that voted for P by z2, which is not back yet. `expected` is what the return of z2, and
-// then that of the 1b on the proposal, give.
+// Round number 6 with this value, for an acceptor that voted for P by z2, which is not back yet. `expected` is what the return of z2 gives. That of
+// the 1b on the proposal gives no vote more: either there was none, or another one would repeat it.
 fn outbid(t0: Tally, r: Round, value: u8, expected: u64) -> Tally {
     let mut t = replied(t0, r, &proposal(6, value), REPLY + 107, &joined(value));
     // The 1b refers to z2.
@@ -153,7 +171,7 @@ fn outbid(t0: Tally, r: Round, value: u8, expected: u64) -> Tally {
     let b = given(a, &z2());
     t = tried(t, b.number, expected);
     let c = given(b.round, &joined(value));
-    t = tried(t, c.number, expected);
+    t = tried(t, c.number, 0);
     reported(t, c.round, 0, DECIDED, B5_70, 0)
 }
 
@@ -222,7 +240,8 @@ fn agreed(t0: Tally, round: Round, state: u64, least: u64) -> Tally {
     reported(t, round, 1, state, least, 0)
 }
 
-// A decision under G1: three 1bs let an acceptor vote, and three 2as decide for both learners; so do four, which are no listed mask.
+// A decision under G1: three 1bs let an acceptor vote, and three 2as decide for both learners; so do four, which are no listed mask. A fourth 1b gives
+// no learner more, and so no vote more.
 fn quorums(t0: Tally) -> Tally {
     let v0 = vote_of(0, 1, 2);
     let v1 = vote_of(1, 0, 2);
@@ -233,7 +252,7 @@ fn quorums(t0: Tally) -> Tally {
     t = tried(t, v2.number, REPLY + 139);
     t = tried(t, v3.number, REPLY + 139);
     let more = given(v0.round, &on_p(3));
-    t = tried(t, more.number, REPLY + 107);
+    t = tried(t, more.number, 0);
     let ones = heard(heard(heard(heard(heard_p(LISTENING), 0), 1), 2), 3);
     let two = after_vote(after_vote(ones, v0), v1);
     t = agreed(t, two, UNDECIDED, 0);

@@ -10,7 +10,7 @@ use Rattle.graph.specs.Limits.{lists, maxMasks}
 use Rattle.message.specs.Layout.{idLen}
 use Rattle.round.specs.Round.{Round}
 use Rattle.round.specs.Limits.{maxHeld}
-use Rattle.round.specs.Demands.{Typed}
+use Rattle.round.specs.Premises.{Typed}
 
 -- ---- where each field stands. The two bytes in front are the graph's acceptors and learners.
 abbrev pub listCountsAt : ℕ

@@ -2,6 +2,7 @@
 //! on rounds that are handed in damaged.
 
 mod agreement;
+mod bounds;
 mod forgery;
 mod judged;
 mod liar;
@@ -9,6 +10,7 @@ mod neighbours;
 mod openings;
 mod owns;
 mod places;
+mod repeats;
 mod samples;
 mod seat;
 mod tampered;
@@ -20,7 +22,8 @@ use crate::Settings;
 use agreement::Met;
 use neighbours::Neighbours;
 use reference::refusal::STRUCK;
-use watched::{Counts, Referee};
+use traffic::Checks;
+use watched::{Counts, Origin, Referee};
 
 /// How many rounds run on random sites; fewer while the model runs alone.
 const ROUNDS: u64 = if cfg!(feature = "rounds") { 20_000 } else { 1_000 };
@@ -88,11 +91,10 @@ fn run_owns(settings: &Settings) -> Tally {
 /// Random sites, until enough rounds ran on them.
 fn run_sites(settings: &Settings) -> Tally {
     let mut referee = Referee::new(settings.random(6));
-    let mut met = Met::default();
-    let mut neighbours = Neighbours::default();
+    let mut checks = Checks::default();
     let mut sites = 0;
     while referee.rounds < ROUNDS * settings.scale {
-        traffic::run_site(&mut referee, &mut met, &mut neighbours);
+        traffic::run_site(&mut referee, &mut checks);
         for _ in 0..OPENINGS {
             traffic::run_opening(&mut referee);
         }
@@ -100,18 +102,17 @@ fn run_sites(settings: &Settings) -> Tally {
     }
     let Referee { opened, handed_in, short, above, only_above, mut tally, rounds, trail, .. } =
         referee;
-    tell(&opened, "rounds from an opening", &OF_OPENED, &mut tally);
+    tell(&opened, Origin::Opened, &OF_OPENED, &mut tally);
     let which = "openings into buffers that are too short";
     short.line("rounds", which, &OF_OPENING[1..], LEAST, &mut tally);
-    tell(&handed_in, "rounds handed in", &OF_HANDED_IN, &mut tally);
+    tell(&handed_in, Origin::HandedIn, &OF_HANDED_IN, &mut tally);
     println!("rounds: rounds handed in: {above} with an own number above 256, {only_above} of them with no other fault");
     tally.check(only_above >= LEAST, || {
         format!("an own number above 256 as the only fault {only_above} times, not {LEAST}")
     });
-    println!(
-        "rounds: agreement met {} pairs of learners that were bound and had decided, and {} that were not bound and ended apart",
-        met.bound, met.apart
-    );
+    let Met { bound, apart } = checks.met;
+    println!("rounds: agreement met {bound} pairs of learners that were bound and had decided, and {apart} that were not bound and ended apart");
+    checks.bounds.tell(&mut tally, LEAST);
     let told = format!(
         "{rounds} rounds on {sites} sites, {} handed in of which {} pass row 17{ALONE}",
         handed_in.rounds, handed_in.taken
@@ -120,8 +121,8 @@ fn run_sites(settings: &Settings) -> Tally {
     if cfg!(feature = "rounds") {
         println!("rounds: {}", trail.told());
     }
-    tell_neighbours(&mut neighbours);
-    tally.add(&neighbours.tally);
+    tell_neighbours(&mut checks.neighbours);
+    tally.add(&checks.neighbours.tally);
     tally
 }
 
@@ -143,7 +144,8 @@ fn tell_neighbours(neighbours: &mut Neighbours) {
 }
 
 /// Says what the calls on some rounds met, and checks that they met enough.
-fn tell(counts: &Counts, which: &str, wanted: &[usize], tally: &mut Tally) {
+fn tell(counts: &Counts, origin: Origin, wanted: &[usize], tally: &mut Tally) {
+    let which = origin.told();
     counts.reached.line("rounds", which, wanted, LEAST, tally);
     counts.answered.never("rounds", which, STRUCK, tally);
     let Counts { deliveries, accepted, returned, replies, longest, reports, .. } = counts;
@@ -158,4 +160,5 @@ fn tell(counts: &Counts, which: &str, wanted: &[usize], tally: &mut Tally) {
     ] {
         tally.check(count >= LEAST, || format!("{which}: {what} {count} times, not {LEAST}"));
     }
+    counts.repeats.tell(tally, LEAST, origin);
 }

@@ -1,9 +1,11 @@
 -- The notes of the first n places of a round are right, and so are the indexes that they keep.
 use mathlib.Core.Path.{_≡_}
+use mathlib.Core.Logic.{_⊎_}
 use mathlib.Core.List.{List}
 use Prim.Native.Nat.{ℕ, suc, _<_}
 use Rattle.base.specs.Tests.{_∈_}
 use Rattle.round.specs.Round.{Round}
+use Rattle.round.specs.Limits.{noPlace}
 use Rattle.round.specs.Holdings.{graphOf}
 use Rattle.roundbytes.specs.Layout.{roundIn}
 use Rattle.notes.specs.Inside.Layout.{WordNotes, ByteNotes, wordNotes, byteNotes, Lent}
@@ -58,11 +60,13 @@ pub record OneMore (s masks words octets : List ℕ) (n : ℕ) : Type 0 where
   -- and their notes are right
   pub complete : Complete (roundIn s) n (wordNotes words) (byteNotes octets)
 
--- ---- what a new message is judged by: the notes of all held messages, and that it refers to places of these
-pub record Judging (s masks words octets places : List ℕ) : Type 0 where
+-- ---- what a new message is judged by: the notes of all held messages, and that it names places of these
+pub record Judging (s masks words octets : List ℕ) (previous : ℕ) (places : List ℕ) : Type 0 where
   -- the arrays are as the pass asks,
   pub given : Given s masks words octets
   -- the notes of all held messages are right,
   pub complete : Complete (roundIn s) (roundIn s .held) (wordNotes words) (byteNotes octets)
-  -- and it refers to these
+  -- it refers to these,
   pub earlier : (j : ℕ) → j ∈ places → j < roundIn s .held
+  -- and its previous message is none or held
+  pub linked : (previous ≡ noPlace) ⊎ (previous < roundIn s .held)

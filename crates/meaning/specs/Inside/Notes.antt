@@ -37,8 +37,10 @@ pub record Noted (G : LearnerGraph) (t : Table) (i low high forkLow forkHigh top
   pub first : eqb form firstForm ≡ is1bAt t i
   -- or a 2a
   pub second : eqb form secondForm ≡ is2aAt t i
-  -- its learners
+  -- its learners,
   pub learning : (a : ℕ) → a < G .learners → has learners a ≡ lrnsAt t G i a
+  -- all of the graph
+  pub within : (a : ℕ) → T (has learners a) → a < G .learners
   -- those that it is fresh for, if it is a 1b
   pub freshly : (a : ℕ) → a < G .learners → T (is1bAt t i) → has fresh a ≡ freshAt t G a i
 

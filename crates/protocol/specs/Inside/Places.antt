@@ -5,7 +5,7 @@ use Prim.Native.Nat.{ℕ}
 use Rattle.graph.specs.LearnerGraph.{LearnerGraph}
 use Rattle.protocol.specs.Message.{is1b, is2a, ballot, value, caught}
 use Rattle.protocol.specs.Learners.{con, buried, fresh, lrns}
-use Rattle.protocol.specs.WellFormed.{formed1b, formed2a}
+use Rattle.protocol.specs.WellFormed.{formed1b, repeats, formed2a}
 use Rattle.protocol.specs.Report.{decides, Verdict, report}
 use Rattle.protocol.specs.Table.{Table, tree, messages}
 
@@ -41,6 +41,9 @@ module _ (t : Table) where
 
     abbrev pub lrnsAt : ℕ → ℕ → Bool
     lrnsAt i a = lrns G (tree t i) a
+
+    abbrev pub repeatsAt : ℕ → Bool
+    repeatsAt i = repeats G (tree t i)
 
     abbrev pub formed2aAt : ℕ → Bool
     formed2aAt i = formed2a G (tree t i)

@@ -12,7 +12,7 @@ use Rattle.round.specs.Round.{Round}
 use Rattle.round.specs.Limits.{maxHeld, noPlace}
 use Rattle.round.specs.Holdings.{idAt, isProposalAt}
 use Rattle.places.specs.Inside.PlaceSets.{inSet, meets, Indexed}
-use Rattle.notes.specs.Inside.Layout.{idKeys, WordNotes, ByteNotes}
+use Rattle.notes.specs.Inside.Layout.{idKeys, secondForm, WordNotes, ByteNotes}
 use Rattle.notes.specs.Inside.Index.{linkAt}
 use Rattle.notes.specs.Inside.Writing.{withIds, withName, withNames}
 
@@ -44,6 +44,11 @@ isCaught x low high j = inSet low high j && meets low high (getD (x .forklow) j 
 abbrev pub isCrowding : Round → WordNotes → ByteNotes → ℕ → ℕ → ℕ → ℕ → ℕ → Bool
 isCrowding r x y low high name ballot j =
     inSet low high j && not (eqb (getD (y .names) j 0) name) && eqb (getD (x .tops) j 0) ballot && not (isProposalAt r j)
+
+-- ---- j holds a 2a of this name, ballot and learners
+abbrev pub isRepeat : WordNotes → ByteNotes → ℕ → ℕ → ℕ → ℕ → Bool
+isRepeat x y name ballot learners j =
+    eqb (getD (y .names) j 0) name && eqb (getD (y .forms) j 0) secondForm && eqb (getD (x .tops) j 0) ballot && eqb (getD (y .learners) j 0) learners
 
 -- ---- k is the lowest of the first n places with an id, or n
 pub record Lowest (r : Round) (n : ℕ) (id : Id) (k : ℕ) : Type 0 where

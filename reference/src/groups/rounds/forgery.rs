@@ -1,5 +1,6 @@
 //! Acceptor messages put together from what a round holds.
 
+use reference::meaning::{Content, Place};
 use reference::message::{self, Body, Message};
 use reference::random::Random;
 use reference::round::Round;
@@ -32,8 +33,46 @@ pub fn forge(random: &mut Random, round: &Round, signer: u8) -> Option<Vec<u8>> 
     if random.once_in(30) {
         references.push(random.id());
     }
+    Some(write(round, signer, previous, references))
+}
+
+/// A vote of the signer's that a round knows once more, by itself or on some others of its
+/// ballot or of any: they may bring more learners or a higher ballot. Mostly it is named.
+pub fn vote_again(random: &mut Random, round: &Round, signer: u8) -> Option<Vec<u8>> {
+    let history = &round.history;
+    let is_known = |place: &Place| round.known[*place] && !history.is_proposal(*place);
+    let known = || (0..round.held()).filter(is_known);
+    let votes: Vec<Place> = known().filter(|x| history.is_2a(*x)).collect();
+    let own: Vec<Place> = votes.iter().copied().filter(|x| history.signer(*x) == signer).collect();
+    if own.is_empty() {
+        return None;
+    }
+    let vote = *random.pick(&own);
+    let in_ballot: Vec<Place> =
+        known().filter(|x| history.ballot(*x) == history.ballot(vote)).collect();
+    let others = if random.once_in(2) { in_ballot } else { votes };
+    let mut references = vec![vote];
+    references.extend((0..*random.pick(&[0, 1, 3])).map(|_| *random.pick(&others)));
+    let id_at = |place: Place| history.messages()[place].id;
+    let previous = (random.below(4) > 0).then_some(id_at(vote));
+    Some(write(round, signer, previous, references.into_iter().map(id_at).collect()))
+}
+
+/// A vote on the grounds of the last sent message, which names none.
+pub fn vote_beside(round: &Round, signer: u8) -> Option<Vec<u8>> {
+    let messages = round.history.messages();
+    match &messages[round.last_sent?].content {
+        Content::Proposal { .. } => None,
+        Content::Acceptor { references, .. } => {
+            let references = references.iter().map(|place| messages[*place].id).collect();
+            Some(write(round, signer, None, references))
+        }
+    }
+}
+
+fn write(round: &Round, signer: u8, previous: Option<Id>, mut references: Vec<Id>) -> Vec<u8> {
     references.sort();
     references.dedup();
     let body = Body::Acceptor { previous, references };
-    Some(message::write(&Message { house: round.house, bay: round.bay, signer, body }))
+    message::write(&Message { house: round.house, bay: round.bay, signer, body })
 }

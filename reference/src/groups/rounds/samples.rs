@@ -1,4 +1,5 @@
-//! Document 01's sample rounds and the examples of rows 8 to 17.
+//! Document 01's sample rounds, as request 1 of document 02 changes them, and the
+//! examples of rows 8 to 17.
 
 use super::judged::Answer;
 use super::seat::Seat;
@@ -8,7 +9,7 @@ use reference::message::{self, Body, Message};
 use reference::refusal::Refusal;
 use reference::round::Report;
 use reference::sha256::{sha256, Id};
-use reference::sites::{g0, g1};
+use reference::sites::{g0, g1, stairs};
 
 pub const HOUSE: u16 = 1;
 pub const BAY: u16 = 12;
@@ -60,6 +61,25 @@ impl<'a> Sample<'a> {
         self.expect(name, outcome, Err(refusal));
     }
 
+    /// The reply to a message that has one.
+    fn reply(&mut self, bytes: &[u8]) -> Vec<u8> {
+        self.deliver(bytes).ok().flatten().unwrap_or_default()
+    }
+
+    /// Request 1: an own vote "returning gives no reply and joins recent".
+    fn expect_return(&mut self, name: &str, bytes: &[u8]) {
+        let Some(place) = self.seat.round().place_of(&sha256(bytes)) else {
+            return self.expect(name, "not held", "held");
+        };
+        let before = (self.seat.round().last_sent, self.seat.round().held());
+        let outcome = self.deliver(bytes);
+        self.expect(name, outcome, Ok(None));
+        let round = self.seat.round();
+        let (known, recent) = (round.known[place], round.recent[place]);
+        let after = (round.last_sent, round.held());
+        self.expect(name, (known, recent, after), (true, true, before));
+    }
+
     fn expect_report(&mut self, name: &str, report: Report) {
         let outcome = self.seat.round().report(0);
         self.expect(name, outcome, Ok(report));
@@ -76,7 +96,7 @@ fn single_acceptor(referee: &mut Referee) {
         &vote(0, None, vec![p_id]),
         Refusal::Reference,
     );
-    let z1 = sample.deliver(&p()).ok().flatten().unwrap_or_default();
+    let z1 = sample.reply(&p());
     sample.expect("z1 takes 43 bytes", z1.len(), 43);
     sample.expect("z1 is a vote on P", &z1, &vote(0, None, vec![p_id]));
     sample.expect_refusal("P twice", &p(), Refusal::Known);
@@ -84,7 +104,7 @@ fn single_acceptor(referee: &mut Referee) {
     let on_awaiting = vote(0, Some(z1_id), vec![z1_id, p_id]);
     sample.expect_refusal("a message on z1 before its return", &on_awaiting, Refusal::Reference);
     sample.expect_report("after P", Report::Undecided);
-    let z2 = sample.deliver(&z1).ok().flatten().unwrap_or_default();
+    let z2 = sample.reply(&z1);
     sample.expect("z2 takes 75 bytes", z2.len(), 75);
     sample.expect("z2 follows z1", &z2, &vote(0, Some(z1_id), vec![z1_id]));
     let z2_place = sample.seat.round().place_of(&sha256(&z2)).expect("z2 is held");
@@ -92,11 +112,14 @@ fn single_acceptor(referee: &mut Referee) {
         && sample.seat.round().history.in_lrns(0, z2_place);
     sample.expect("z2 is a 2a for learner 0", for_learner_0, true);
     sample.expect_report("after P and z1", Report::Undecided);
-    let _ = sample.deliver(&z2);
+    sample.expect_return("z2 returning", &z2);
     sample.expect_report("after z2", Report::Decided(5 << 32 | 70));
     let old = sample.deliver(&proposal(3, 70));
     sample.expect("a proposal with round number 3", old, Ok(None));
     sample.expect_refusal("z1 again", &z1, Refusal::Known);
+    let z2_id = sha256(&z2);
+    let repeated = vote(0, Some(z2_id), vec![z2_id]);
+    sample.expect_refusal("z2 repeated", &repeated, Refusal::Malformed2a);
     rows_8_to_17(&mut sample, p_id, z1_id);
 }
 
@@ -131,6 +154,56 @@ fn four_acceptors(referee: &mut Referee) {
     sample.expect_refusal("under G1, only z1 beneath", &alone, Refusal::Malformed2a);
     let other = vote(1, Some(z1_id), vec![z1_id]);
     sample.expect_refusal("previous of another signer", &other, Refusal::Previous);
+}
+
+/// A vote for more learners than the one before is sent, and no vote is voted on.
+fn growing_learners(referee: &mut Referee) {
+    let mut sample = Sample::open(referee, &graph::write(&stairs(2)), Some(0));
+    let (promise, higher) = (vote(1, None, vec![sha256(&p())]), proposal(6, 70));
+    let z1 = sample.reply(&p());
+    let z2 = sample.reply(&z1);
+    let z3 = sample.reply(&promise);
+    let [z1_id, z2_id, z3_id] = [&z1, &z2, &z3].map(|bytes| sha256(bytes));
+    sample.expect("a vote for learner 0", &z2, &vote(0, Some(z1_id), vec![z1_id]));
+    let for_both = vote(0, Some(z2_id), vec![z2_id, sha256(&promise)]);
+    sample.expect("a vote for both learners", &z3, &for_both);
+    sample.expect_return("the vote for learner 0 returning", &z2);
+    sample.expect_return("the vote for both learners returning", &z3);
+    // Both joined recent, and the next ballot begins with the first learner again.
+    let z4 = sample.reply(&higher);
+    let on_both = vote(0, Some(z3_id), vec![z2_id, z3_id, sha256(&higher)]);
+    sample.expect("a promise on both votes", &z4, &on_both);
+    let z4_id = sha256(&z4);
+    let z5 = sample.reply(&z4);
+    sample.expect("a vote in the next ballot", &z5, &vote(0, Some(z4_id), vec![z4_id]));
+    sample.expect_return("the vote in the next ballot returning", &z5);
+}
+
+/// Votes that repeat one of the signer's, in a listening round: the rule asks what is
+/// named, and in which ballot.
+fn repeated_votes(referee: &mut Referee) {
+    let mut sample = Sample::open(referee, &graph::write(&g0()), None);
+    let p_id = sha256(&p());
+    let z1 = vote(0, None, vec![p_id]);
+    let z1_id = sha256(&z1);
+    let z2 = vote(0, Some(z1_id), vec![z1_id]);
+    let z2_id = sha256(&z2);
+    let higher = proposal(6, 70);
+    let promise = vote(0, Some(z2_id), vec![z2_id, sha256(&higher)]);
+    for bytes in [&p(), &z1, &z2, &higher, &promise] {
+        let outcome = sample.deliver(bytes);
+        sample.expect("a message to a listening round", outcome, Ok(None));
+    }
+    let again = vote(0, Some(z2_id), vec![z2_id]);
+    sample.expect_refusal("z2 repeated", &again, Refusal::Malformed2a);
+    let on_more = vote(0, Some(z2_id), vec![z1_id, z2_id]);
+    sample.expect_refusal("z2 repeated on z1 and z2", &on_more, Refusal::Malformed2a);
+    let naming_none = sample.deliver(&vote(0, None, vec![z2_id]));
+    sample.expect("z2 repeated, naming none", naming_none, Ok(None));
+    let after_1b = sample.deliver(&vote(0, Some(z1_id), vec![z1_id, z2_id]));
+    sample.expect("z2 repeated, naming z1", after_1b, Ok(None));
+    let other_ballot = sample.deliver(&vote(0, Some(z2_id), vec![z2_id, sha256(&promise)]));
+    sample.expect("the learners of z2 in another ballot", other_ballot, Ok(None));
 }
 
 fn until_full(referee: &mut Referee) {
@@ -168,6 +241,8 @@ fn openings(referee: &mut Referee) {
 pub fn run(referee: &mut Referee) {
     single_acceptor(referee);
     four_acceptors(referee);
+    growing_learners(referee);
+    repeated_votes(referee);
     until_full(referee);
     openings(referee);
 }

@@ -27,7 +27,8 @@ pub struct Seat {
     pub accepted: Vec<Accepted>,
     /// By learner.
     pub said: Vec<Said>,
-    last_written: Option<Vec<u8>>,
+    /// The ids of the replies, in order.
+    pub written: Vec<Id>,
 }
 
 impl Seat {
@@ -37,7 +38,8 @@ impl Seat {
         round: (u16, u16, Option<u32>),
     ) -> Result<Self, Refusal> {
         let watched = Watched::open(referee, file, round)?;
-        let mut seat = Seat { watched, accepted: Vec::new(), said: Vec::new(), last_written: None };
+        let mut seat =
+            Seat { watched, accepted: Vec::new(), said: Vec::new(), written: Vec::new() };
         seat.said.resize(seat.round().history.graph.learners(), Said::default());
         Ok(seat)
     }
@@ -88,9 +90,9 @@ impl Seat {
             Ok(Body::Acceptor { previous, .. }) => Some(previous),
             _ => None,
         };
-        let before = self.last_written.as_deref().map(sha256);
+        let before = self.written.last().copied();
         referee.tally.check(named == Some(before), || "the chain of replies is broken".to_string());
-        self.last_written = Some(reply.to_vec());
+        self.written.push(sha256(reply));
     }
 
     pub fn report(&mut self, referee: &mut Referee, learner: u8) {

@@ -1,7 +1,7 @@
 //! Rounds handed in that no opening led to: row 17 turns them down, or the rules
 //! go on over what they hold.
 
-use super::forgery::forge;
+use super::forgery::{forge, vote_again, vote_beside};
 use super::watched::{Referee, Watched};
 use reference::damage;
 use reference::handed_in;
@@ -26,14 +26,23 @@ fn tamper(random: &mut Random, running: &[u8], sent: &[Vec<u8>]) -> Vec<u8> {
     bytes
 }
 
-/// A message that a round may take: a sent one, a new proposal, or one on what it holds.
-fn message_for(random: &mut Random, round: &Round, sent: &[Vec<u8>]) -> Vec<u8> {
+fn signer_for(random: &mut Random, round: &Round) -> u8 {
     let acceptors = round.history.graph.acceptors;
-    let signer = match random.below(12) {
+    match random.below(12) {
         0 => acceptors as u8,
         1..=4 => round.own.unwrap_or(0),
         _ => random.below(acceptors) as u8,
-    };
+    }
+}
+
+/// A message that a round may take: a sent one, a new proposal, or one on what it holds.
+fn message_for(random: &mut Random, round: &Round, sent: &[Vec<u8>]) -> Vec<u8> {
+    let signer = signer_for(random, round);
+    if random.once_in(4) {
+        if let Some(again) = vote_again(random, round, signer) {
+            return again;
+        }
+    }
     match random.below(6) {
         0 => random.pick(sent).clone(),
         1 => {
@@ -53,16 +62,33 @@ fn plant_return(random: &mut Random, bytes: &mut [u8], sent: &[Vec<u8>]) -> Opti
     Some(message)
 }
 
-/// Some calls on a round that is not as its opening and its deliveries left it.
-pub fn run(referee: &mut Referee, running: &[u8], sent: &[Vec<u8>]) {
-    let random = &mut referee.random;
+/// A running round with a fault about last sent, and a vote beside that one.
+fn tamper_last(random: &mut Random, running: &[u8]) -> (Vec<u8>, Option<Vec<u8>>) {
+    let mut bytes = running.to_vec();
+    tampering::disturb_last(random, &mut bytes);
+    let round = handed_in::take(&bytes).ok();
+    let vote = round.and_then(|round| vote_beside(&round, signer_for(random, &round)));
+    (bytes, vote)
+}
+
+/// The bytes of a round, and the message that it gets first, if that is settled.
+fn prepare(random: &mut Random, running: &[u8], sent: &[Vec<u8>]) -> (Vec<u8>, Option<Vec<u8>>) {
+    if random.once_in(6) {
+        return tamper_last(random, running);
+    }
     let mut bytes = tamper(random, running, sent);
     let planted = match random.below(4) {
         0 => plant_return(random, &mut bytes, sent),
         _ => None,
     };
+    (bytes, planted)
+}
+
+/// Some calls on a round that is not as its opening and its deliveries left it.
+pub fn run(referee: &mut Referee, running: &[u8], sent: &[Vec<u8>]) {
+    let (bytes, first) = prepare(&mut referee.random, running, sent);
     let mut watched = Watched::hand_in(referee, bytes);
-    if let Some(message) = planted {
+    if let Some(message) = first {
         let _ = watched.deliver(referee, &message);
     }
     for _ in 0..referee.random.between(1, 4) {

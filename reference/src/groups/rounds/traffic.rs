@@ -2,7 +2,8 @@
 //! reorders, loses, repeats and damages.
 
 use super::agreement::{self, Met};
-use super::forgery::forge;
+use super::bounds::Bounds;
+use super::forgery::{forge, vote_again};
 use super::judged::Answer;
 use super::liar::Liar;
 use super::neighbours::Neighbours;
@@ -16,9 +17,9 @@ use reference::layout::LISTENING;
 use reference::message::{self, Body, Message};
 use reference::random::Random;
 use reference::refusal::Refusal;
-use reference::round::{Round, CAPACITY};
+use reference::round::CAPACITY;
 use reference::sha256::{sha256, Id};
-use reference::sites::{accepted_graph, g0, g1, majority_of_three};
+use reference::sites::{accepted_graph, g0, g1, majority_of_three, stairs};
 use std::collections::HashMap;
 
 /// More than there are acceptors.
@@ -30,8 +31,6 @@ struct Network {
     lost: usize,
     /// A message is taken from anywhere in the queue, not from its front.
     shuffled: usize,
-    /// A vote that only repeats the one before it is passed on.
-    repeated: usize,
     /// A step brings a new proposal.
     proposals: usize,
     /// Anybody's number may be forged, not only the liars'.
@@ -58,17 +57,17 @@ fn random_network(random: &mut Random) -> Network {
     Network {
         lost: *random.pick(&[0, 0, 5, 20]),
         shuffled: *random.pick(&[0, 10, 50, 100]),
-        repeated: *random.pick(&[0, 0, 10, 100]),
         proposals: *random.pick(&[1, 3, 10]),
         forged: random.once_in(6),
     }
 }
 
 fn random_site_graph(random: &mut Random) -> LearnerGraph {
-    match random.below(8) {
+    match random.below(9) {
         0 => g0(),
         1 | 2 => g1(),
         3 => majority_of_three(),
+        4 => stairs(random.between(2, 4)),
         _ => accepted_graph(random),
     }
 }
@@ -182,15 +181,12 @@ impl Site {
         if !matches!(outcome, Err(Refusal::Reference | Refusal::Argument)) {
             self.queues[seat].remove(waiting);
         }
-        self.pass_on(referee, seat, outcome);
+        self.pass_on(referee, outcome);
     }
 
-    fn pass_on(&mut self, referee: &mut Referee, seat: usize, outcome: Answer) {
+    fn pass_on(&mut self, referee: &mut Referee, outcome: Answer) {
         if let Ok(Some(reply)) = outcome {
-            let repeats = repeats_a_vote(self.seats[seat].round());
-            if !repeats || referee.random.below(100) < self.network.repeated {
-                self.send(&mut referee.random, reply);
-            }
+            self.send(&mut referee.random, reply);
         }
     }
 
@@ -295,14 +291,17 @@ impl Site {
         let Some(signer) = self.forger(random) else {
             return;
         };
-        let Some(bytes) = forge(random, self.seats[seat].round(), signer) else {
+        let round = self.seats[seat].round();
+        let again = if random.once_in(2) { vote_again(random, round, signer) } else { None };
+        let Some(bytes) = again.or_else(|| forge(random, round, signer)) else {
             return;
         };
         let outcome = self.seats[seat].deliver(referee, &bytes);
-        if outcome.is_ok() {
+        // A 2a that is not well-formed here is tried elsewhere, too.
+        if matches!(outcome, Ok(_) | Err(Refusal::Malformed2a)) {
             self.send(&mut referee.random, bytes);
         }
-        self.pass_on(referee, seat, outcome);
+        self.pass_on(referee, outcome);
     }
 
     /// An earlier message again, a damaged one, or one for another bay.
@@ -321,15 +320,17 @@ impl Site {
             _ => damage::message(random, &mut bytes),
         }
         let outcome = self.seats[seat].deliver(referee, &bytes);
-        self.pass_on(referee, seat, outcome);
+        self.pass_on(referee, outcome);
     }
 
-    /// Fills a seat nearly or wholly with proposals, and votes of liars on them.
+    /// Fills a seat nearly or wholly with proposals, and votes of liars on them. Then what
+    /// it sent last returns, and what it sends on that.
     fn flood(&mut self, referee: &mut Referee, seat: usize) {
-        let target = referee.random.between(100, CAPACITY);
+        let least = *referee.random.pick(&[100, CAPACITY - 1]);
+        let target = referee.random.between(least, CAPACITY);
         for round in 1..=200 {
             if self.seats[seat].round().held() >= target {
-                return;
+                break;
             }
             let ballot = (u64::from(round * 7 % 40_u32) << 32) | u64::from(round % 3);
             let body = Body::Proposal { ballot };
@@ -337,7 +338,7 @@ impl Site {
             let bytes = message::write(&message);
             let references = vec![sha256(&bytes)];
             let outcome = self.seats[seat].deliver(referee, &bytes);
-            self.pass_on(referee, seat, outcome);
+            self.pass_on(referee, outcome);
             if self.liars.is_empty() {
                 continue;
             }
@@ -345,8 +346,20 @@ impl Site {
             let body = Body::Acceptor { previous: None, references };
             let vote = Message { house: self.house, bay: self.bay, signer, body };
             let outcome = self.seats[seat].deliver(referee, &message::write(&vote));
-            self.pass_on(referee, seat, outcome);
+            self.pass_on(referee, outcome);
         }
+        for _ in 0..2 {
+            self.return_last(referee, seat);
+        }
+    }
+
+    fn return_last(&mut self, referee: &mut Referee, seat: usize) {
+        let Some(place) = self.seats[seat].written.last().and_then(|id| self.by_id.get(id)) else {
+            return;
+        };
+        let bytes = self.sent[*place].clone();
+        let outcome = self.seats[seat].deliver(referee, &bytes);
+        self.pass_on(referee, outcome);
     }
 
     fn report(&mut self, referee: &mut Referee, seat: usize) {
@@ -358,8 +371,19 @@ impl Site {
         self.seats[seat].report(referee, learner as u8);
     }
 
+    /// Now and then one of the rounds whose last sent message is a 2a.
+    fn some_seat_that_voted(&self, random: &mut Random) -> Option<usize> {
+        let voted = |seat: &usize| {
+            let round = self.seats[*seat].round();
+            round.last_sent.is_some_and(|z| round.history.is_2a(z))
+        };
+        let voted: Vec<usize> = (0..self.seats.len()).filter(voted).collect();
+        (!voted.is_empty() && random.once_in(2)).then(|| *random.pick(&voted))
+    }
+
     /// Some calls on a copy of a seat's round, with bytes that are not its own.
     fn tamper(&mut self, referee: &mut Referee, seat: usize) {
+        let seat = self.some_seat_that_voted(&mut referee.random).unwrap_or(seat);
         let running = &self.seats[seat];
         if referee.random.once_in(10) {
             let taken = handed_in::take(running.bytes());
@@ -388,29 +412,24 @@ impl Site {
     }
 }
 
-/// Whether the last reply is a 2a for the same ballot and learners as the one before.
-fn repeats_a_vote(round: &Round) -> bool {
-    let history = &round.history;
-    let Some(z) = round.last_sent else {
-        return false;
-    };
-    let Some(previous) = history.previous(z).and_then(|id| round.place_of(id)) else {
-        return false;
-    };
-    history.is_2a(z)
-        && history.is_2a(previous)
-        && history.ballot(z) == history.ballot(previous)
-        && history.learners().all(|a| history.in_lrns(a, z) == history.in_lrns(a, previous))
+/// What is checked on all that was seen at a site.
+#[derive(Default)]
+pub struct Checks {
+    pub met: Met,
+    pub bounds: Bounds,
+    pub neighbours: Neighbours,
 }
 
 /// Runs one site and checks what was seen there.
-pub fn run_site(referee: &mut Referee, met: &mut Met, neighbours: &mut Neighbours) {
+pub fn run_site(referee: &mut Referee, checks: &mut Checks) {
     let mut site = Site::open(referee);
     for _ in 0..referee.random.between(1, 3) {
         site.propose(&mut referee.random);
     }
-    if referee.random.once_in(20) {
-        let seat = referee.random.below(site.seats.len());
+    if referee.random.once_in(12) {
+        let any = referee.random.below(site.seats.len());
+        let voter = site.some_voters(&mut referee.random, 1).pop();
+        let seat = voter.filter(|_| referee.random.below(4) > 0).unwrap_or(any);
         site.flood(referee, seat);
     }
     if referee.random.once_in(2) {
@@ -431,8 +450,11 @@ pub fn run_site(referee: &mut Referee, met: &mut Met, neighbours: &mut Neighbour
             seat.report(referee, learner as u8);
         }
     }
-    agreement::check(referee, met, &site.graph, &site.seats);
-    neighbours.check(site.seats.iter().map(Seat::round));
+    agreement::check(referee, &mut checks.met, &site.graph, &site.seats);
+    for seat in &site.seats {
+        checks.bounds.check(&mut referee.tally, seat);
+    }
+    checks.neighbours.check(site.seats.iter().map(Seat::round));
 }
 
 /// A number that few graphs or none have an acceptor for; 256 is none.

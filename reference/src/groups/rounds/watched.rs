@@ -2,6 +2,7 @@
 //! and beside them the library's.
 
 use super::judged::{short_len, Answer, Judged, Verdict};
+use super::repeats::Repeats;
 use crate::tally::{Reached, Tally};
 use reference::handed_in;
 use reference::layout::{self, Opening, HELD, LISTENING, OWN, ROUND_LEN};
@@ -50,12 +51,23 @@ pub struct Counts {
     pub longest: usize,
     /// How many reports said undecided, decided and split.
     pub outcomes: [u64; 3],
+    pub repeats: Repeats,
 }
 
-#[derive(Clone, Copy)]
-enum Origin {
+#[derive(Clone, Copy, PartialEq)]
+pub enum Origin {
     Opened,
     HandedIn,
+}
+
+impl Origin {
+    /// As the lines say it.
+    pub fn told(self) -> &'static str {
+        match self {
+            Origin::Opened => "rounds from an opening",
+            Origin::HandedIn => "rounds handed in",
+        }
+    }
 }
 
 impl Referee {
@@ -190,7 +202,10 @@ impl Watched {
         };
         let held = HELD.number(&self.bytes, 0);
         let outcome = match &mut self.model {
-            Ok(round) => round.deliver(message, room),
+            Ok(round) => {
+                let watch = &mut referee.counts(self.origin).repeats;
+                round.deliver_watched(message, room, watch)
+            }
             Err(refusal) => Err(*refusal),
         };
         if let (Ok(round), Ok(delivery)) = (&self.model, &outcome) {

@@ -36,6 +36,7 @@ judge-requires c κs =
       given = given-of (a .s .now) (a .masks .now) (a .words .now) (a .octets .now) (p .0 .passes .long) (p .0 .read) (p .0 .passes .fit) (worked .lent);
       complete = worked .complete;
       earlier = λ j k. refers .earlier j (subst (λ (y : List ℕ). j ∈ y) l k);
+      linked = place-cases (roundIn (a .s .now)) (a .t6 .previous) (refers .placed);
     }
 
 returns : tie.Need-returns
@@ -44,7 +45,7 @@ returns c =
     let r = roundIn (a .s .now) in
     let i = a .id .now in
     let l : take (a .t6 .count - 0) (a .t6 .places) ≡ refersTo (a .t6) = front-part (a .t6 .count) (a .t6 .places) in
-    subst (λ (y : List ℕ). Judged (graphOf r) (messageOf r (says i (a .t6 .signer) (named r (a .t6 .previous)) y)) (c .judge .result)) l (c .judge .ensures (a .t6 .signer) (a .t6 .previous) (place-cases r (a .t6 .previous) (c .before .before .before .before .before .before .before .before .before .before .pre .1 .placed)))
+    subst (λ (y : List ℕ). Judged (graphOf r) (messageOf r (says i (a .t6 .signer) (named r (a .t6 .previous)) y)) (c .judge .result)) l (c .judge .ensures (a .t6 .signer))
 
 pub judge-vote-spec : {M : Type 1} → statement M
 judge-vote-spec =
