@@ -45,7 +45,7 @@ fn main() {
     let mut controller = open(0);
     let first = deliver(&mut controller, &proposal);
     let second = deliver(&mut controller, &first);
-    assert!(deliver(&mut controller, &second).is_empty(), "a vote that returns is not voted on");
+    assert!(deliver(&mut controller, &second).is_empty(), "its vote returns, and would only be repeated");
 
     let mut vent_computer = open(HPAXOS_LISTENING);
     for message in [&proposal[..], &first, &second] {
