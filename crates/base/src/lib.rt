@@ -1,4 +1,5 @@
 // What every layer leans on: bytes widened, big-endian numbers read and written by shifts, bytes copied, the value of a ballot.
+#![tactic(auto)]
 
 pub mod refusal;
 

@@ -1,5 +1,7 @@
 // A site at work: four controllers, one of which equivocates, and three growers who trust different controllers and still agree on their vents.
 // The library's calls decide everything; this program carries the messages, and tells what it carries.
+#![tactic(auto)]
+
 use base::{put_all, size};
 use digest::sha256;
 use engine::{deliver, open, report};

@@ -1,4 +1,6 @@
 // SHA-256 of FIPS 180-4. The definitions in specs/ transcribe the standard; sha256 answers what they say, for a message of any length.
+#![tactic(auto)]
+
 ghost use Rattle.std.specs.Prelude.{◌≡◌, ◌/◌, length};
 ghost use Rattle.digest.specs.Preprocessing.{padded, initial};
 ghost use Rattle.digest.specs.Sha256.{hash, joined, sha256};
@@ -14,7 +16,7 @@ mod functions;
 mod padding;
 
 // The eight words of a hash value, and the eight working variables.
-#[derive(Drop)]
+#[derive(Clone, Copy)]
 pub struct State {
     pub a: u32,
     pub b: u32,

@@ -1,5 +1,7 @@
 // Runs SHA-256 on the vectors that NIST publishes with FIPS 180-4 and on messages at the padding's edges, and prints how many failed.
 // The expected digests are the published ones and, for the edges, those of the tool sha256sum.
+#![tactic(auto)]
+
 ghost use Rattle.std.specs.Prelude.{◌≡◌, ◌+◌, ◌≤◌, ◌<◌, length};
 
 use base::read64;

@@ -1,5 +1,7 @@
 // What runs a round that stands in a lent buffer: opening one, delivering a message to it, and reporting for a learner. The rules are those of the
 // crate round.
+#![tactic(auto)]
+
 use crate::take::{take_proposal, take_vote};
 use admission::start::start;
 use base::refusal::Refusal;

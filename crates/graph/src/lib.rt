@@ -1,4 +1,6 @@
 // The learner graph of a site in memory: its quorums and safe sets asked about, and whether it is valid and condensed.
+#![tactic(auto)]
+
 use base::refusal::{Refusal, number};
 use condensed::is_condensed;
 use valid::is_valid;

@@ -1,4 +1,6 @@
 // Sample graph files, each with the answer that document 01 gives it. Prints how many failed.
+#![tactic(auto)]
+
 ghost use Rattle.std.specs.Prelude.{length, ◌+◌, ◌*◌, ◌≤◌, ◌<◌};
 
 use base::{put_all, put16};

@@ -1,4 +1,6 @@
 // The graph file of a site, read, checked and written: rows 1 to 5 on the way through its bytes, and rows 6 and 7 of the graph that it gives.
+#![tactic(auto)]
+
 use base::refusal::Refusal;
 use base::{put_all, read16, size};
 use file::{Field, read_count, read_lists};

@@ -1,5 +1,7 @@
 // Row 17 of a round handed in: whether its counts and places lie in their tables. What is not in use is not read. This stands above the work-out pass,
 // so that row 17 can ask what the held messages mean.
+#![tactic(auto)]
+
 ghost use Rattle.std.specs.Prelude.{◌≡◌, ◌||◌, ℕ, ◌*◌, ◌≤◌, ◌<◌, eqb, ltb, length};
 ghost use Rattle.base.specs.Tests.{all, below};
 ghost use Rattle.base.specs.Bytes.{part};

@@ -1,4 +1,6 @@
 // What a held message means, worked out from the notes of the places before it.
+#![tactic(auto)]
+
 pub mod step;
 
 // What is asked of a new message before it is taken or sent.

@@ -1,6 +1,7 @@
 // Messages: read from bytes, and written to a lent buffer.
 //
 // Ids stay in the message's own bytes and are reached by their place there.
+#![tactic(auto)]
 
 pub mod ballot;
 pub mod layout;

@@ -1,5 +1,7 @@
 // Runs document 01's examples of messages and the cases around them, and prints how many failed.
 // The bytes and the numbers expected are written out from the document, not made by the library.
+#![tactic(auto)]
+
 ghost use Rattle.std.specs.Prelude.{◌+◌, ◌*◌, ◌<◌, ◌≤◌, length};
 
 use base::refusal::number;

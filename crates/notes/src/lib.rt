@@ -1,5 +1,7 @@
 // The notes of the places of a round: what each held message means, in two lent arrays, with a reader for each column, the writers, and the index
 // over them, so that a question is asked of few places.
+#![tactic(auto)]
+
 use places::Places;
 use round::{MAX_HELD, NO_PLACE};
 

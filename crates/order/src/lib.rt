@@ -1,5 +1,7 @@
 // Rows 8 to 16 of the table "When a call is turned down", as far as they ask for no table: the tests of 8, 9 and 16, which compare numbers, and the
 // order of all of them, over tests that were made.
+#![tactic(auto)]
+
 use round::{LISTENING, MAX_HELD};
 
 pub mod rows;

@@ -1,4 +1,6 @@
 // Sets of the places of a round, each place a bit, and the walk over such a set.
+#![tactic(auto)]
+
 pub mod sets;
 
 // A set of places: bit j of low is place j, bit j of high place 64 + j.

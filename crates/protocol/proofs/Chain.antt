@@ -100,7 +100,7 @@ module _ (M : List Message) (law : Chained M) where
           (c, v, o, down u k e s, d, n)
 
   -- a chain is of one signer
-  mine_on : {p : ℕ} {x y : Message} → Mine M p x → On y x → Mine M p y
+  mine_on : {p : ℕ} {y x : Message} → Mine M p x → On y x → Mine M p y
   mine_on {p} i (here e) = subst (λ (z : Message). Mine M p z) (sym e) i
   mine_on {p} {x} i (down u k e q) =
       let j : u ∈ M = refers x u i.inside k in

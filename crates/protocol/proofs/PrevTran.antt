@@ -18,7 +18,7 @@ pub data On (y : Message) : Message → Type 0 where
   here : {x : Message} → y ≡ x → On y x
   down : {x : Message} (u : Message) → u ∈ references x → previous x ≡ some (id_of u) → On y u → On y x
 
-pub on_tran : {x y : Message} → On y x → y ∈ tran x
+pub on_tran : {y x : Message} → On y x → y ∈ tran x
 on_tran (here {x = x} e) = Memᴰ.cast e (tran_self x)
 on_tran {y} (down {x = x} u k e q) = tran_closed x u y (beneath_tran x (reference_beneath x k)) (on_tran q)
 
@@ -94,6 +94,6 @@ unfolding prev_tran references previous
 prev_tran_down (proposal i s b) k e h = elim k [ ]
 prev_tran_down (acceptor i s p r) k e h = Memᴰ.tail (prev_trans_in p r k e h)
 
-pub prev_tran_in : {x y : Message} → On y x → y ∈ prev_tran x
+pub prev_tran_in : {y x : Message} → On y x → y ∈ prev_tran x
 prev_tran_in (here {x = x} e) = Memᴰ.cast e (prev_tran_self x)
 prev_tran_in (down {x = x} u k e q) = prev_tran_down x k e (prev_tran_in q)

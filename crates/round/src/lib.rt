@@ -1,4 +1,6 @@
 // What the calls on one round answer: opening it, delivering a message to it, and reporting for a learner. The rules are the definitions in specs/.
+#![tactic(auto)]
+
 use base::refusal::Refusal;
 
 // How many messages a round holds.

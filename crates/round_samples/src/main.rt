@@ -1,5 +1,7 @@
 // Runs document 01's sample rounds and its rows for rounds, and prints how many failed.
 // The bytes and the numbers expected are written out from the document, not made by the library.
+#![tactic(auto)]
+
 use base::{put_all, wide};
 use calls::{Round, Step, after, cramped, differing, given, opening, start, told};
 use digest::sha256;

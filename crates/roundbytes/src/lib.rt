@@ -1,4 +1,6 @@
 // A round as bytes in a fixed layout, numbers big-endian: for hosts that keep a round in a buffer of their own.
+#![tactic(auto)]
+
 use base::{put_all, put8, put16, put32, read32};
 use graph::{Graph, LISTS, MASK_SLOTS};
 use message::layout::ID_LEN;

@@ -1,5 +1,6 @@
 // What the work-out pass asks of the places of a round, each by one loop over them: which places lie beneath a message, which fork, who is caught,
 // whether a vote is repeated, and which place an id names. The round's bytes and its notes are lent whole.
+#![tactic(auto)]
 
 pub mod beneath;
 pub mod forks;
