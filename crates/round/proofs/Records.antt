@@ -17,15 +17,15 @@ use Rattle.round.proofs.Order.{ids_of}
 module _ (b : Bool) (i : Id) (s x : ℕ) (p : Option Id) (l : List ℕ) where
   picked_id : held_id (pick b (offers i s x) (says i s p l)) ≡ i
   unfolding held_id
-  picked_id = elim b [ true ↦ refl | false ↦ refl ]
+  picked_id = elim b as (λ v. held_id (pick v (offers i s x) (says i s p l)) ≡ i) [ true ↦ refl | false ↦ refl ]
 
   picked_signer : held_signer (pick b (offers i s x) (says i s p l)) ≡ s
   unfolding held_signer
-  picked_signer = elim b [ true ↦ refl | false ↦ refl ]
+  picked_signer = elim b as (λ v. held_signer (pick v (offers i s x) (says i s p l)) ≡ s) [ true ↦ refl | false ↦ refl ]
 
   picked_offered : offered (pick b (offers i s x) (says i s p l)) ≡ b
   unfolding offered
-  picked_offered = elim b [ true ↦ refl | false ↦ refl ]
+  picked_offered = elim b as (λ v. offered (pick v (offers i s x) (says i s p l)) ≡ v) [ true ↦ refl | false ↦ refl ]
 
 module _ (r : Round) where
   pub at_table : (k : ℕ) → k < r.held → at (table_of r) k ≡ record_at r k
