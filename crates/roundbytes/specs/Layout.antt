@@ -22,11 +22,11 @@ house_at = masks_at + 4 * (max_masks * lists)
 abbrev pub bay_at : ℕ
 bay_at = house_at + 2
 
-abbrev pub field_own : ℕ
-field_own = bay_at + 2
+abbrev pub own_at : ℕ
+own_at = bay_at + 2
 
 abbrev pub held_at : ℕ
-held_at = field_own + 2
+held_at = own_at + 2
 
 abbrev pub last_at : ℕ
 last_at = held_at + 1
@@ -99,7 +99,7 @@ round_in b =
       graph = graph_in b;
       house = be 2 b house_at;
       bay = be 2 b bay_at;
-      own = be 2 b field_own;
+      own = be 2 b own_at;
       held = get_or b held_at 0;
       last = get_or b last_at 0;
       ids = part (id_len * max_held) b ids_at;
