@@ -12,15 +12,11 @@ use Rattle.base.proofs.Bytes.{part_length}
 use Rattle.base.proofs.Cuts.{cut, one_into, cut_set, get_d_part}
 use Rattle.places.specs.Inside.PlaceSets.{in_set, Grown}
 use Rattle.places.proofs.Indexing.{put_here, put_grown}
-use borrow.Author.Rules.{rules}
-use Rattle.places.proofs.sets.put_place.Statement.{statement}
-use Rattle.places.proofs.sets.put_place.Tie as tie
 use Rattle.round.specs.Limits.{max_held}
+use Rattle.places.proofs.sets.put_place.Goals as goal
 
 -- the two words written, one among the low words and one among the high words
-both : (keys k j x y : ℕ) (s : List ℕ) → k < keys → length s ≡ keys + keys → j < max_held
-    → ((q : ℕ) → q < max_held → in_set x y q ≡ ((true && eqb j q) || in_set (get_or s k 0) (get_or s (keys + k) 0) q))
-    → let s' = set (set s k x) (keys + k) y in
+both : (keys k j x y : ℕ) (s : List ℕ) → k < keys → length s ≡ keys + keys → j < max_held → ((q : ℕ) → q < max_held → in_set x y q ≡ ((true && eqb j q) || in_set (get_or s k 0) (get_or s (keys + k) 0) q)) → let s' = set (set s k x) (keys + k) y in
     Grown (part keys s 0) (part keys s keys) (part keys s' 0) (part keys s' keys) × T (in_set (get_or (part keys s' 0) k 0) (get_or (part keys s' keys) k 0) j)
 both keys k j x y s h n l put =
     let s' = set (set s k x) (keys + k) y in
@@ -41,59 +37,8 @@ both keys k j x y s h n l put =
     subst₂ (λ (a b : List ℕ). Grown low high a b × T (in_set (get_or a k 0) (get_or b k 0) j)) (sym (ap (λ (c : List (List ℕ)). get_or c 0 []) e)) (sym f)
     (put_grown k x y j low high lk hk p, put_here k x y j low high lk hk p l)
 
-mul-with-place : tie.Need-overflow-mul-with-place
-mul-with-place c = search rules
+pub bounds-sets-keys-2 : goal.bounds-sets-keys-2
+bounds-sets-keys-2 c = let a = c.args in omega (arith, length-set a.sets.now a.k c.with_place-s.result.low)
 
-slice-read-with-place : tie.Need-slice-read-with-place
-slice-read-with-place c = search rules
-
-add-with-place : tie.Need-overflow-add-with-place
-add-with-place c = search rules
-
-mul-with-place-2 : tie.Need-overflow-mul-with-place-2
-mul-with-place-2 c = search rules
-
-slice-read-with-place-2 : tie.Need-slice-read-with-place-2
-slice-read-with-place-2 c = search rules
-
-with-place-requires : tie.Need-with-place-requires
-with-place-requires c κs = search rules
-
-mul-sets : tie.Need-overflow-mul-sets
-mul-sets c = search rules
-
-slice-write-sets : tie.Need-slice-write-sets
-slice-write-sets c = search rules
-
-add-sets : tie.Need-overflow-add-sets
-add-sets c = search rules
-
-mul-sets-2 : tie.Need-overflow-mul-sets-2
-mul-sets-2 c = search rules
-
-slice-write-sets-2 : tie.Need-slice-write-sets-2
-slice-write-sets-2 c = let a = c.before.before.before.before.args in omega (arith, length-set a.sets.now a.k c.with-place.result.low)
-
-same_length : tie.Need-same-length
-same_length c = search rules
-
-returns : tie.Need-returns
-returns c = let a = c.before.before.before.before.args in let r = c.with-place.result in both a.keys a.k a.j r.low r.high a.sets.now c.before.before.before.before.requires.1.0 c.before.before.before.before.requires.1.1 c.before.before.before.before.requires.0 c.with-place.ensures
-
-pub put-place-spec : {M : Type 1} → statement M
-put-place-spec =
-    tie.close
-    (tie.spec
-    mul-with-place
-    slice-read-with-place
-    add-with-place
-    mul-with-place-2
-    slice-read-with-place-2
-    with-place-requires
-    mul-sets
-    slice-write-sets
-    add-sets
-    mul-sets-2
-    slice-write-sets-2
-    same_length
-    returns)
+pub returns : goal.returns
+returns c = let a = c.args in let r = c.with_place-s.result in both a.keys a.k a.j r.low r.high a.sets.now c.requires.1.0 c.requires.1.1 c.requires.0 c.with_place-s.ensures
