@@ -16,7 +16,7 @@ use roundbytes::IDS_AT;
 use roundbytes::readers::held_of;
 
 // The place that an id names, or nothing.
-#[derive(Drop)]
+#[derive(Clone, Copy)]
 pub enum Found {
     At(usize),
     Nothing,

@@ -19,7 +19,7 @@ use round::{MAX_HELD, NO_PLACE};
 use roundbytes::readers::{kind_at, known_at, signer_at};
 
 // What a round holds of an acceptor message: the place of its previous message or NO_PLACE, and those of its references, the first `count`.
-#[derive(Drop)]
+#[derive(Clone, Copy)]
 pub struct Vote {
     pub signer: u8,
     pub previous: u8,
@@ -50,7 +50,7 @@ pub fn is_awaited(s: &[u8], found: Found) -> bool
 }
 
 // Whether a reference of an acceptor message is not known, and where the references are held. Where one is not known, the places say nothing.
-#[derive(Drop)]
+#[derive(Clone, Copy)]
 pub struct References {
     pub lacking: bool,
     pub places: [u8; MAX_HELD],
@@ -116,7 +116,7 @@ fn is_vote_of(s: &[u8], p: usize, signer: u8) -> bool
 
 // Whether the previous message is not referred to, a proposal, or of another signer, and where it is held, or NO_PLACE. Where row 12 applies,
 // the place says nothing.
-#[derive(Drop)]
+#[derive(Clone, Copy)]
 pub struct Previous {
     pub unchained: bool,
     pub place: u8,

@@ -5,7 +5,7 @@
 pub mod report;
 
 // The least of some ballots, if there is one.
-#[derive(Drop)]
+#[derive(Clone, Copy)]
 pub struct Least {
     pub found: bool,
     pub ballot: u64,

@@ -32,7 +32,7 @@ pub const MASK_SLOTS: usize = MAX_MASKS * LISTS;
 
 // A graph in memory. List k has counts[k] masks, from masks[MAX_MASKS * k] on: list a is learner a's quorums, and `pair_list(a, b)` the safe
 // list of the pair a-b. What is not used is 0.
-#[derive(Drop)]
+#[derive(Clone, Copy)]
 pub struct Graph {
     pub acceptors: u8,
     pub learners: u8,
@@ -40,7 +40,7 @@ pub struct Graph {
     pub masks: [Mask; MASK_SLOTS],
 }
 
-#[derive(Drop)]
+#[derive(Clone, Copy)]
 pub enum Answer {
     Accepted,
     Refused(Refusal),

@@ -15,7 +15,7 @@ use graph::lists::{known, pair_list, some_within};
 use graph::{Answer, MAX_MASKS, Mask};
 
 // What a field holds, or the place behind it; or why the file is turned down there.
-#[derive(Drop)]
+#[derive(Clone, Copy)]
 pub enum Field {
     Is(usize),
     Refused(Refusal),

@@ -39,14 +39,14 @@ const LISTS_AT: usize = LEARNERS_AT + 1;
 // The longest file: every list has all its masks.
 pub const MAX_LEN: usize = LISTS_AT + (1 + MASK_BYTES * MAX_MASKS) * LISTS;
 
-#[derive(Drop)]
+#[derive(Clone, Copy)]
 pub struct Reading {
     pub answer: Answer,
     pub graph: Graph,
 }
 
 // How many bytes were written to the front of a lent buffer.
-#[derive(Drop)]
+#[derive(Clone, Copy)]
 pub enum Written {
     Bytes(usize),
     NotWritten(Refusal),

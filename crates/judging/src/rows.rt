@@ -48,7 +48,7 @@ pub fn head_row(s: &[u8], m: AcceptorMessage, found: Found) -> Row
 }
 
 // What rows 11 and 12 say; where neither applies, what the message's ids name.
-#[derive(Drop)]
+#[derive(Clone, Copy)]
 pub struct Chained {
     pub row: Row,
     pub vote: Vote,

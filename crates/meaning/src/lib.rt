@@ -4,7 +4,7 @@
 pub mod step;
 
 // What is asked of a new message before it is taken or sent.
-#[derive(Drop)]
+#[derive(Clone, Copy)]
 pub struct Note {
     // Whether it is well-formed as a 1b and as a 2a.
     pub formed1b: bool,

@@ -26,7 +26,7 @@ use reader::{read_acceptor, read_proposal};
 use references::nth_of;
 use writer::{put_references, write_head};
 
-#[derive(Drop)]
+#[derive(Clone, Copy)]
 pub struct Proposal {
     pub house: u16,
     pub bay: u16,
@@ -35,7 +35,7 @@ pub struct Proposal {
 }
 
 // A 1b or a 2a. Its previous id and its references stand in the bytes it was read from.
-#[derive(Drop)]
+#[derive(Clone, Copy)]
 pub struct AcceptorMessage {
     pub house: u16,
     pub bay: u16,
@@ -46,7 +46,7 @@ pub struct AcceptorMessage {
 }
 
 // What bytes say.
-#[derive(Drop)]
+#[derive(Clone, Copy)]
 pub enum Reading {
     OfProposer(Proposal),
     OfAcceptor(AcceptorMessage),
@@ -54,14 +54,14 @@ pub enum Reading {
 }
 
 // Where an id stands in a message.
-#[derive(Drop)]
+#[derive(Clone, Copy)]
 pub enum Place {
     At(usize),
     NoPlace(Refusal),
 }
 
 // How many bytes were written to the front of a lent buffer.
-#[derive(Drop)]
+#[derive(Clone, Copy)]
 pub enum Written {
     Bytes(usize),
     NotWritten(Refusal),

@@ -9,7 +9,7 @@ use super::Place;
 use super::layout::ID_LEN;
 use base::refusal::Refusal;
 
-#[derive(Drop)]
+#[derive(Clone, Copy)]
 pub struct References<'a> {
     pub bytes: &'a [u8],
     pub count: usize,

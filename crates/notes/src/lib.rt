@@ -74,7 +74,7 @@ pub const FORMS_AT: usize = FRESH_AT + MAX_HELD;
 pub const OCTETS: usize = FORMS_AT + MAX_HELD;
 
 // What is worked out for a held message.
-#[derive(Drop)]
+#[derive(Clone, Copy)]
 pub struct Worked {
     // The places that it reaches.
     pub beneath: Places,
@@ -90,7 +90,7 @@ pub struct Worked {
 
 // The places that are asked for a message: whether they fork with it, whether one that it reaches was caught, whether one is a vote, a vote of its
 // own signer, or a 1b of its ballot.
-#[derive(Drop)]
+#[derive(Clone, Copy)]
 pub struct Walks {
     pub forks: Places,
     pub caught: Places,

@@ -5,7 +5,7 @@ ghost use Rattle.order.specs.Inside.Rows.{row_of, head_row, chain_row, form_row}
 use base::refusal::Refusal;
 
 // A row that applies, if one does.
-#[derive(Drop)]
+#[derive(Clone, Copy)]
 pub enum Row {
     Clear,
     Applies(Refusal),

@@ -4,7 +4,7 @@
 pub mod sets;
 
 // A set of places: bit j of low is place j, bit j of high place 64 + j.
-#[derive(Drop)]
+#[derive(Clone, Copy)]
 pub struct Places {
     pub low: u64,
     pub high: u64,

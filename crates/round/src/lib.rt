@@ -13,14 +13,14 @@ pub const NO_PLACE: u8 = 255;
 pub const LISTENING: u16 = 256;
 
 // What an opening answers.
-#[derive(Drop)]
+#[derive(Clone, Copy)]
 pub enum Opening {
     Opened,
     Refused(Refusal),
 }
 
 // What a delivery answers: accepted with no reply, accepted with a reply of so many bytes, or refused.
-#[derive(Drop)]
+#[derive(Clone, Copy)]
 pub enum Outcome {
     Accepted,
     Replied(usize),
@@ -28,7 +28,7 @@ pub enum Outcome {
 }
 
 // What a report answers: the least deciding ballot, and for a split also the least deciding one of another value.
-#[derive(Drop)]
+#[derive(Clone, Copy)]
 pub enum Report {
     Undecided,
     Decided(u64),

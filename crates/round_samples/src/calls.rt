@@ -16,13 +16,13 @@ use roundbytes::ROUND_LEN;
 const BLANK: u8 = 9;
 
 // A round as the calls keep it.
-#[derive(Drop)]
+#[derive(Clone, Copy)]
 pub struct Round {
     pub bytes: [u8; ROUND_LEN],
 }
 
 // What a delivery gave: 0 for a message accepted with no reply, 256 and the reply's length, or the number that turns it down.
-#[derive(Drop)]
+#[derive(Clone, Copy)]
 pub struct Step {
     pub number: u64,
     pub round: Round,
@@ -30,7 +30,7 @@ pub struct Step {
 }
 
 // What a report gave: 0 or the number that turns it down, and its page: 0 undecided, 1 decided, 2 split, and its ballots, 0 where it has none.
-#[derive(Drop)]
+#[derive(Clone, Copy)]
 pub struct Verdict {
     pub number: u64,
     pub state: u64,

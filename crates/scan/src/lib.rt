@@ -8,7 +8,7 @@ pub mod names;
 pub mod repeats;
 
 // What lies beneath a message: a set of places, its ballot, and whether it refers to a proposal.
-#[derive(Drop)]
+#[derive(Clone, Copy)]
 pub struct Under {
     pub low: u64,
     pub high: u64,

@@ -5,7 +5,7 @@
 pub mod learners;
 
 // The highest of some ballots, and the highest of another value than that one's; 0 where there is none.
-#[derive(Drop)]
+#[derive(Clone, Copy)]
 pub struct Peaks {
     pub best: u64,
     pub other: u64,
