@@ -1,0 +1,162 @@
+use mathlib.Core.Path.{◌≡◌, sym, ap, subst, transport, ◌∙◌}
+use mathlib.Core.Bool.{Bool, not, ◌&&◌, ◌||◌}
+use mathlib.Core.List.{List, [], ◌∷◌, ◌++◌}
+use Prim.Native.Nat.{ℕ, ◌+◌, ◌-◌, ◌*◌, ◌<◌}
+use lib.Dec.{eqb}
+use lib.ListN.{get_or, take, drop}
+use Rattle.base.specs.Tests.{◌∈◌, pick, any, below}
+use Rattle.base.specs.Sets.{has}
+use Rattle.base.proofs.Tests.{entry_below}
+use Rattle.graph.specs.LearnerGraph.{safe_without}
+use Rattle.protocol.specs.Table.{says}
+use Rattle.protocol.proofs.Growth.{length_tabulate}
+use Rattle.round.specs.Limits.{max_held}
+use Rattle.round.specs.Holdings.{graph_of, id_at, named, record_at}
+use Rattle.roundbytes.specs.Layout.{references_at, round_in}
+use Rattle.notes.specs.declared.Worked.{Worked}
+use Rattle.notes.specs.Inside.Layout.{word_notes, byte_notes}
+use Rattle.meaning.specs.Inside.Records.{table_to}
+use Rattle.meaning.specs.Inside.Notes.{Candidate, Told}
+use Rattle.meaning.proofs.Working.{told}
+use Rattle.meaning.proofs.Passing.{lent_references, held_candidate, held_told}
+use Rattle.meaning.proofs.Walking.{covers_forks, covers_caught, covers_votes, covers_rivals, covers_backers}
+use native.Mathlib.Omega.{arith}
+use Rattle.meaning.proofs.step.step.Goals as goal
+
+pub under-u-requires : goal.under-u-requires
+under-u-requires c =
+    let a = c.args in
+    let pre = c.requires in
+    let g = pre.0.given in
+    let few = g.fit.held in
+    let l = pre.1.0 in
+    let n = c.size in
+    let e : n.result ≡ get_or (round_in a.s.now).counts a.p 0 = n.ensures.0 ∙ c.count_at.ensures in
+    let most = g.fit.count a.p l in
+    let same = lent_references a.s.now a.p n.result g.graphed.long (omega (arith, few, l)) (omega (arith, most, e)) e in
+    let each : (j : ℕ) → j ∈ (take (references_at + max_held * a.p + n.result - (references_at + max_held * a.p)) (drop (references_at + max_held * a.p) a.s.now)) → j < max_held = λ j m. let z = g.fit.back a.p l pre.1.1 j (subst (λ (q : List ℕ). j ∈ q) same m) in omega arith in
+    (g.graphed.long, (g.lent.word_room, entry_below (take (references_at + max_held * a.p + n.result - (references_at + max_held * a.p)) (drop (references_at + max_held * a.p) a.s.now)) max_held (omega arith) each))
+
+pub forking-forks-requires : goal.forking-forks-requires
+forking-forks-requires c =
+    let a = c.args in
+    let pre = c.requires in
+    let g = pre.0.given in
+    let few = g.fit.held in
+    let l = pre.1.0 in
+    let r = round_in a.s.now in
+    let x = word_notes a.words.now in
+    let y = byte_notes a.octets.now in
+    let u = c.under-u.result in
+    let w = c.walks_for-walks in
+    (g.graphed.long, (g.lent.octet_room, record { few = omega arith; covers = covers_forks a.p r x y (omega arith) pre.0.marked u.low u.high u.ballot c.signer_at-signer.result c.name_at-link.result w.result w.ensures c.name_at-name.result }))
+
+pub caught_in-others-requires : goal.caught_in-others-requires
+caught_in-others-requires c =
+    let a = c.args in
+    let pre = c.requires in
+    let g = pre.0.given in
+    let few = g.fit.held in
+    let l = pre.1.0 in
+    let r = round_in a.s.now in
+    let x = word_notes a.words.now in
+    let y = byte_notes a.octets.now in
+    let u = c.under-u.result in
+    let w = c.walks_for-walks in
+    (g.graphed.long, (g.lent.word_room, record { few = omega arith; covers = covers_caught a.p r x y (omega arith) pre.0.marked u.low u.high u.ballot c.signer_at-signer.result c.name_at-link.result w.result w.ensures }))
+
+pub learners_of-l-requires : goal.learners_of-l-requires
+learners_of-l-requires c =
+    c.requires.0.given.graphed.long
+
+pub opposing-against-requires : goal.opposing-against-requires
+opposing-against-requires c =
+    let a = c.args in
+    let pre = c.requires in
+    let g = pre.0.given in
+    let few = g.fit.held in
+    let l = pre.1.0 in
+    let r = round_in a.s.now in
+    let x = word_notes a.words.now in
+    let y = byte_notes a.octets.now in
+    let u = c.under-u.result in
+    let w = c.walks_for-walks in
+    let sig = c.signer_at-signer.result in
+    let link = c.name_at-link.result in (
+      record {
+        asked = record { long = g.graphed.long; lent = g.lent };
+        few = omega arith;
+        votes = λ q. covers_votes a.p r x y (omega arith) pre.0.marked u.low u.high u.ballot sig link w.result w.ensures q;
+        rivals = λ q. covers_rivals a.p r x y (omega arith) pre.0.marked u.low u.high u.ballot sig link w.result w.ensures q c.value-v.result;
+      },
+      omega (arith, g.learners, c.count_if-firsts.ensures.1, c.learners_of-l.ensures.0),
+    )
+
+pub fresh_for-free-requires : goal.fresh_for-free-requires
+fresh_for-free-requires c =
+    let g = c.requires.0.given in
+    let n = c.learners_of-l.ensures.0 in
+    (g.graphed, (omega (arith, g.learners, c.count_if-firsts.ensures.1, n), omega (arith, g.learners, n)))
+
+pub learners_for-learned-requires : goal.learners_for-learned-requires
+learners_for-learned-requires c =
+    let a = c.args in
+    let pre = c.requires in
+    let g = pre.0.given in
+    let few = g.fit.held in
+    let l = pre.1.0 in
+    let r = round_in a.s.now in
+    let x = word_notes a.words.now in
+    let y = byte_notes a.octets.now in
+    let u = c.under-u.result in
+    let w = c.walks_for-walks in
+    (g.graphed, (record { asked = record { long = g.graphed.long; lent = g.lent }; few = omega arith; backers = covers_backers a.p r x y (omega arith) pre.0.marked u.low u.high u.ballot w.result.backers.low w.result.backers.high w.ensures.backing }, omega (arith, g.learners, c.count_if-seconds.ensures.1, c.learners_of-l.ensures.0)))
+
+pub returns : goal.returns
+returns c =
+    let a = c.args in
+    let pre = c.requires in
+    let g = pre.0.given in
+    let few = g.fit.held in
+    let l = pre.1.0 in
+    let r = round_in a.s.now in
+    let x = word_notes a.words.now in
+    let y = byte_notes a.octets.now in
+    let n = c.size in
+    let most = g.fit.count a.p l in
+    let ps = take (references_at + max_held * a.p + n.result - (references_at + max_held * a.p)) (drop (references_at + max_held * a.p) a.s.now) in
+    let ec : n.result ≡ get_or r.counts a.p 0 = n.ensures.0 ∙ c.count_at.ensures in
+    let eps = lent_references a.s.now a.p n.result g.graphed.long (omega (arith, few, l)) (omega (arith, most, ec)) ec in
+    let at = c.size-2 in
+    let ey = at.ensures.0 ∙ c.previous_at.ensures in
+    let u = c.under-u.result in
+    let sig = c.signer_at-signer in
+    let name = c.name_at-name in
+    let link = c.name_at-link in
+    let forks = c.forking-forks in
+    let others = c.caught_in-others in
+    let caught = c.with_acceptor-caught in
+    let learners = c.learners_of-l in
+    let firsts = c.count_if-firsts in
+    let v = c.value-v in
+    let against = c.opposing-against in
+    let free = c.fresh_for-free in
+    let seconds = c.count_if-seconds in
+    let learned = c.learners_for-learned in
+    let t = table_to r a.p in
+    let worked : Worked = record { beneath = record { low = u.low; high = u.high }; forks = record { low = forks.result.low; high = forks.result.high }; ballot = u.ballot; learners = learned.result; fresh = free.result; form = c.form_of.result } in
+    λ names kn.
+    let ca : Candidate t r y ps (id_at r a.p) (named r at.result) name.result link.result =
+    transport (λ i. Candidate t r y ps (id_at r a.p) (named r at.result) (sym name.ensures i) (sym link.ensures i)) (held_candidate r r.held g.fit a.p l pre.1.1 y names at.result ey ps eps) in
+    let all : Told (graph_of r) (t ++ says (id_at r a.p) sig.result (named r at.result) ps ∷ []) a.p worked =
+    told (graph_of r) t r x y ps kn (id_at r a.p) sig.result (named r at.result) a.p (length_tabulate a.p (record_at r)) (omega arith) ca.earlier
+    u.low u.high u.ballot u.offered c.under-u.ensures name.result link.result ca
+    forks.result.low forks.result.high others.result caught.result against.result free.result learned.result firsts.result seconds.result v.result c.form_of.result
+    g.graphed.acceptors forks.ensures others.ensures
+    (λ q h. caught.ensures q h ∙ ap (λ (z : Bool). (z && eqb sig.result q) || has others.result q) c.meet.ensures)
+    (firsts.ensures.0 ∙ ap (λ (z : ℕ). pick u.offered z 0) learners.ensures.0) v.ensures against.ensures
+    (λ q. free.ensures q ∙ ap (λ (z : ℕ). any (λ d. not (any (λ e. safe_without (graph_of r) d e (has caught.result) && has against.result e) (below z)) && eqb d q) (below firsts.result)) learners.ensures.0)
+    (seconds.ensures.0 ∙ ap (λ (z : ℕ). pick (not u.offered) z 0) learners.ensures.0)
+    learned.ensures c.form_of.ensures in
+    held_told (graph_of r) r r.held g.fit a.p pre.1.1 at.result ey ps eps worked
+    (subst (λ (z : ℕ). Told (graph_of r) (t ++ says (id_at r a.p) z (named r at.result) ps ∷ []) a.p worked) sig.ensures all)
