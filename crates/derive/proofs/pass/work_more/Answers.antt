@@ -14,64 +14,52 @@ use Rattle.meaning.specs.Inside.Notes.{AllNoted}
 use Rattle.meaning.proofs.Growing.{known_renamed}
 use Rattle.derive.proofs.Keeping.{marks_named}
 use Rattle.derive.proofs.Extending.{all_complete}
-use borrow.Author.Rules.{rules}
-use Rattle.derive.proofs.pass.work_more.Statement.{statement}
-use Rattle.derive.proofs.pass.work_more.Tie as tie
+use Rattle.derive.proofs.pass.work_more.Goals as goal
 
-name-place-requires : tie.Need-name-place-requires
-name-place-requires c κs =
-    let pre = c.before.before.before.before.before.before.requires in
+pub name_place-name-requires : goal.name_place-name-requires
+name_place-name-requires c =
+    let pre = c.requires in
     (record { long = pre.given.graphed.long; lent = pre.given.lent }, (omega (arith, pre.given.fit.held, pre.more), pre.complete.ids))
 
-extend-requires : tie.Need-extend-requires
-extend-requires c κs =
-    let a = c.before.before.before.before.before.before.before.before.before.before.before.before.before.args in
-    let pre = c.before.before.before.before.before.before.before.before.before.before.before.before.before.requires in
+pub extend-requires : goal.extend-requires
+extend-requires c =
+    let a = c.args in
+    let pre = c.requires in
     let given = pre.given in
     let r = round_in a.s.now in
     let x = word_notes a.words.now in
     let y = byte_notes a.octets.now in
-    let named = c.before.before.before.before.before.before.name-place in
-    let x' = word_notes named.new.1.0 in
-    let wide : length named.new.1.0 ≡ length a.words.now = named.auto.1.0 in
-    let long : length named.new.1.1.0 ≡ length a.octets.now = named.auto.1.1.0 in
+    let named = c.name_place-name in
+    let x' = word_notes named.new.words in
+    let wide : length named.new.words ≡ length a.words.now = named.auto.words in
+    let long : length named.new.octets ≡ length a.octets.now = named.auto.octets in
     record {
       given = record { graphed = given.graphed; learners = given.learners; fit = given.fit; lent = record { word_room = wide ∙ given.lent.word_room; octet_room = long ∙ given.lent.octet_room } };
       within = omega (arith, pre.more);
       marked = transport (λ i. Marks a.n r (sym named.ensures.rest i) (sym named.ensures.named i)) (marks_named a.n named.result r x y x'.idlow x'.idhigh pre.before pre.complete.marked);
     }
 
-same_length : tie.Need-same-length
-same_length c = search rules
-
-same-length-2 : tie.Need-same-length-2
-same-length-2 c = search rules
-
-returns : tie.Need-returns
+pub returns : goal.returns
 returns c =
-    let a = c.before.before.before.before.before.before.before.before.before.before.before.before.before.before.before.before.before.before.args in
-    let pre = c.before.before.before.before.before.before.before.before.before.before.before.before.before.before.before.before.before.before.requires in
+    let a = c.args in
+    let pre = c.requires in
     let given = pre.given in
     let r = round_in a.s.now in
     let x = word_notes a.words.now in
     let y = byte_notes a.octets.now in
-    let named = c.before.before.before.before.before.before.before.before.before.before.before.name-place in
-    let more = c.before.before.before.before.extend in
-    let x' = word_notes named.new.1.0 in
-    let y' = byte_notes named.new.1.1.0 in
-    let wide : length named.new.1.0 ≡ length a.words.now = named.auto.1.0 in
-    let long : length named.new.1.1.0 ≡ length a.octets.now = named.auto.1.1.0 in
-    let wider : length more.new.1.1.0 ≡ length named.new.1.0 = more.auto.1.1.0 in
-    let longer : length more.new.1.1.1.0 ≡ length named.new.1.1.0 = more.auto.1.1.1.0 in
+    let named = c.name_place-name in
+    let more = c.extend in
+    let x' = word_notes named.new.words in
+    let y' = byte_notes named.new.octets in
+    let wide : length named.new.words ≡ length a.words.now = named.auto.words in
+    let long : length named.new.octets ≡ length a.octets.now = named.auto.octets in
+    let wider : length more.new.words ≡ length named.new.words = more.auto.words in
+    let longer : length more.new.octets ≡ length named.new.octets = more.auto.octets in
     let e : a.n + 1 ≡ r.held = omega (arith, pre.more) in
     let old : NamedAll r a.n x x y y = record { named = pre.complete.named; indexed = pre.complete.ids; words = refl; octets = refl } in
     let all = all_more r a.n named.result x x x' y y y' (omega (arith, given.fit.held, pre.more)) (byte_rooms a.octets.now given.lent.octet_room).names old named.ensures in
     let known = transport (λ i. AllNoted (graph_of r) (table_to r a.n) r (sym all.words i) (sym all.octets i)) (known_renamed (graph_of r) (table_to r a.n) r x y x'.idlow x'.idhigh y'.names pre.complete.known) in
     record {
       lent = record { word_room = wider ∙ wide ∙ given.lent.word_room; octet_room = longer ∙ long ∙ given.lent.octet_room };
-      complete = all_complete r a.n x' (word_notes more.new.1.1.0) y' (byte_notes more.new.1.1.1.0) (subst (λ (n : ℕ). Named r n y') e all.named) (subst (λ (n : ℕ). IdsIndexed r n x') e all.indexed) known more.ensures;
+      complete = all_complete r a.n x' (word_notes more.new.words) y' (byte_notes more.new.octets) (subst (λ (n : ℕ). Named r n y') e all.named) (subst (λ (n : ℕ). IdsIndexed r n x') e all.indexed) known more.ensures;
     }
-
-pub work-more-spec : {M : Type 1} → statement M
-work-more-spec =
-    tie.close (tie.spec name-place-requires extend-requires same_length same-length-2 returns)
