@@ -6,6 +6,7 @@ ghost use Rattle.std.specs.Prelude.{◌≡◌, ◌+◌, ◌≤◌, ◌<◌, leng
 
 use base::read64;
 use digest::sha256;
+use std::io;
 
 // How many vectors were run, and how many failed.
 #[derive(Drop)]
@@ -14,14 +15,12 @@ struct Tally {
     failed: u64,
 }
 
-fn main() {
+fn main(rt: HostRuntime) -> io::Result<()> {
     let none = Tally { run: 0, failed: 0 };
     let messages = published_long(published_short(none));
     let t = two_block_edges(one_block_edges(padding_edges(messages)));
-    io::print_decimal(1, t.run);
-    io::write_all(1, b" vectors, ");
-    io::print_decimal(1, t.failed);
-    io::write_all(1, b" failed\n");
+    let (run, failed) = (t.run, t.failed);
+    println!(rt; "{run} vectors, {failed} failed")
 }
 
 // The 32 bytes are those of a, b, c and d.

@@ -5,6 +5,7 @@ ghost use Rattle.std.specs.Prelude.{length, ◌+◌, ◌*◌, ◌≤◌, ◌<◌
 
 use base::{put_all, put16};
 use graphfile::Written;
+use std::io;
 
 // 0 where the file has this answer, and 1 otherwise.
 fn failed(file: &[u8], answer: u32) -> u64
@@ -301,7 +302,7 @@ fn writing() -> u64
     n
 }
 
-fn main() {
+fn main(rt: HostRuntime) -> io::Result<()> {
     let n = rows()
         + lengths()
         + counts()
@@ -311,6 +312,5 @@ fn main() {
         + largest()
         + far_too_long()
         + writing();
-    io::print_decimal(1, n);
-    io::write_all(1, b" of 102 failed\n");
+    println!(rt; "{n} of 102 failed")
 }

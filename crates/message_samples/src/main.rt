@@ -7,6 +7,7 @@ ghost use Rattle.std.specs.Prelude.{◌+◌, ◌*◌, ◌<◌, ◌≤◌, length
 use base::refusal::number;
 use message::ballot::{meant_round, round_of, value_of};
 use message::{Place, Reading, Written};
+use std::io;
 
 // How many samples were run, and how many failed.
 #[derive(Drop)]
@@ -15,13 +16,11 @@ struct Tally {
     failed: u64,
 }
 
-fn main() {
+fn main(rt: HostRuntime) -> io::Result<()> {
     let none = Tally { run: 0, failed: 0 };
     let t = references(ends(ranges(rows(writing(none)))));
-    io::print_decimal(1, t.run);
-    io::write_all(1, b" samples, ");
-    io::print_decimal(1, t.failed);
-    io::write_all(1, b" failed\n");
+    let (run, failed) = (t.run, t.failed);
+    println!(rt; "{run} samples, {failed} failed")
 }
 
 // One sample more.
