@@ -9,6 +9,7 @@ use message::ballot::ballot_of;
 use message::{write_acceptor, write_proposal};
 use round::{Outcome, Report};
 use roundbytes::ROUND_LEN;
+use std::io;
 use tell::{reply_kind, tell_answer, tell_page, tell_plan, tell_way};
 
 mod tell;
@@ -25,7 +26,7 @@ const LISTENING: u32 = 256;
 const LIAR: u8 = 3;
 
 // A message on its way: the first `len` of its bytes, and what is told of it. None in this story takes more than 256 bytes.
-#[derive(Drop)]
+#[derive(Clone, Copy)]
 struct Letter {
     bytes: [u8; 256],
     len: usize,
@@ -36,20 +37,20 @@ struct Letter {
 }
 
 // A party's round, as the calls keep it.
-#[derive(Drop)]
+#[derive(Clone, Copy)]
 struct Round {
     bytes: [u8; ROUND_LEN],
 }
 
 // What a delivery answered, and the round afterwards.
-#[derive(Drop)]
+#[derive(Clone, Copy)]
 struct Taken {
     outcome: Outcome,
     round: Round,
 }
 
 // Parties 0 to 2 are the honest controllers, 3 to 5 the growers. The liar has no round: the program writes what it says.
-#[derive(Drop)]
+#[derive(Clone, Copy)]
 struct Site {
     parties: [Round; 6],
     // The largest ballot beneath the messages that a party's next reply builds on.
@@ -196,16 +197,16 @@ fn handed(l: Letter, round: Round, reply: &mut [u8]) -> Taken {
 }
 
 // Delivers letter `which` to a party, and posts the reply.
-fn carried(s0: Site, to: usize, which: usize) -> Site
+fn carried(rt: &impl Print, s0: Site, to: usize, which: usize) -> io::Result<Site>
     requires { (to < 6) × (which < 16) }
 {
     let mut s = s0;
     let l = s.letters[which];
-    tell_way(l.kind, l.sender, l.ballot, to);
+    tell_way(rt, l.kind, l.sender, l.ballot, to)?;
     let mut reply = [0u8; 4139];
     let d = handed(l, s.parties[to], &mut reply);
     let outcome = d.outcome;
-    tell_answer(outcome, l.kind);
+    tell_answer(rt, outcome, l.kind)?;
     let round = d.round;
     s.parties[to] = round;
     let mut ballot = s.ballots[to];
@@ -215,32 +216,32 @@ fn carried(s0: Site, to: usize, which: usize) -> Site
     match outcome {
         Outcome::Replied(len) => {
             s.ballots[to] = ballot;
-            posted(s, reply_to(l, &reply, len, to as u8, ballot))
+            Ok(posted(s, reply_to(l, &reply, len, to as u8, ballot)))
         }
         Outcome::Accepted => {
             // A proposal that gets no reply is not built on.
             if l.kind != 0 {
                 s.ballots[to] = ballot;
             }
-            s
+            Ok(s)
         }
-        Outcome::Refused(_) => s,
+        Outcome::Refused(_) => Ok(s),
     }
 }
 
 // Delivers letters in the order of a script: a byte is 16 times the party, and the letter. Replies are letters 5, 6 and so on.
-fn play(s0: Site, script: &[u8]) -> Site {
+fn play(rt: &impl Print, s0: Site, script: &[u8]) -> io::Result<Site> {
     let mut s = s0;
     let mut i: usize = 0;
     while i < script.len() {
         let order = size(script[i]);
         let to = order / 16;
         if to < 6 {
-            s = carried(s, to, order % 16);
+            s = carried(rt, s, to, order % 16)?;
         }
         i += 1;
     }
-    s
+    Ok(s)
 }
 
 // What a grower's round says for a learner.
@@ -250,38 +251,34 @@ fn told(round: Round, learner: u8) -> Report {
 }
 
 // The vent page of each grower.
-fn pages(s: Site) {
-    tell_page(0, told(s.parties[3], 0));
-    tell_page(1, told(s.parties[4], 1));
-    tell_page(2, told(s.parties[5], 2));
+fn pages(rt: &impl Print, s: Site) -> io::Result<()> {
+    tell_page(rt, 0, told(s.parties[3], 0))?;
+    tell_page(rt, 1, told(s.parties[4], 1))?;
+    tell_page(rt, 2, told(s.parties[5], 2))
 }
 
 // The traffic in three parts, the first with what returns to controller 0. Letters 5 to 7 are the 1bs of controllers 0, 1 and 2 in round 5; 8 to a their
 // 2as, and b another of controller 0, for one grower more; c and d the 1bs of controllers 2 and 1 in round 6.
-fn main() {
+fn main(rt: HostRuntime) -> io::Result<()> {
     let file = plan();
-    tell_plan(graphfile::check(&file));
-    io::write_all(
-        1,
-        b"\nController 3 lies: its first word to grower 0 is for 70 percent, its first word to grower 1 for 40.\n",
-    );
+    tell_plan(&rt, graphfile::check(&file))?;
+    println!(rt; "\nController 3 lies: its first word to grower 0 is for 70 percent, its first word to grower 1 for 40.")?;
     let s1 = play(
+        &rt,
         start(),
         b"\x00\x41\x10\x02\x43\x32\x20\x06\x17\x15\x56\x25\x26\x07\x30\x32\x50\x56\x55\x59\x52\x58\x57\x59",
-    );
-    tell::tell_returns();
-    let s2 = play(s1, b"\x05\x08\x0b");
-    pages(s2);
-    io::write_all(
-        1,
-        b"\nRound 6 offers 40 percent, and controller 3 pushes it.\n",
-    );
-    let s3 = play(s2, b"\x23\x21\x11\x23\x24\x16\x1a\x13\x1c");
-    tell::tell_no_vote();
+    )?;
+    tell::tell_returns(&rt)?;
+    let s2 = play(&rt, s1, b"\x05\x08\x0b")?;
+    pages(&rt, s2)?;
+    println!(rt; "\nRound 6 offers 40 percent, and controller 3 pushes it.")?;
+    let s3 = play(&rt, s2, b"\x23\x21\x11\x23\x24\x16\x1a\x13\x1c")?;
+    tell::tell_no_vote(&rt)?;
     let s4 = play(
+        &rt,
         s3,
         b"\x44\x49\x40\x47\x45\x46\x49\x4a\x4b\x42\x48\x4b\x36\x35\x37\x38\x3a\x39\x32\x51\x53",
-    );
-    pages(s4);
-    tell::tell_why();
+    )?;
+    pages(&rt, s4)?;
+    tell::tell_why(&rt)
 }

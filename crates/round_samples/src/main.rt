@@ -8,6 +8,7 @@ use digest::sha256;
 use papers::{
     first_vote, g0, g1, joined_vote, next_vote, on_p, p, p_id, p_with, proposal, z1, z1_id, z2,
 };
+use std::io;
 use roundbytes::{COUNTS_AT, HELD_AT, LAST_AT, OWN_AT, RECENT_AT, REFERENCES_AT};
 
 mod calls;
@@ -32,22 +33,20 @@ const B5_70: u64 = 0x0000_0005_0000_0046;
 const B6_71: u64 = 0x0000_0006_0000_0047;
 
 // How many samples were run, and how many failed.
-#[derive(Drop)]
+#[derive(Clone, Copy)]
 struct Tally {
     run: u64,
     failed: u64,
 }
 
-fn main() {
+fn main(rt: HostRuntime) -> io::Result<()> {
     let none = Tally { run: 0, failed: 0 };
     let rounds = waiting(quorums(splits(bound(decision(returned(samples(none)))))));
     let rows = under_g1(chains(references(known(readings(rounds)))));
     let limits = full_voting(full_listening(rows));
     let t = handed(buffers(learners(openings(limits))));
-    io::print_decimal(1, t.run);
-    io::write_all(1, b" samples, ");
-    io::print_decimal(1, t.failed);
-    io::write_all(1, b" failed\n");
+    let (run, failed) = (t.run, t.failed);
+    println!(rt; "{run} samples, {failed} failed")
 }
 
 // One sample more.
@@ -295,7 +294,7 @@ fn under_g1(t0: Tally) -> Tally {
 }
 
 // A round, and the samples that led to it.
-#[derive(Drop)]
+#[derive(Clone, Copy)]
 struct Filled {
     tally: Tally,
     round: Round,
