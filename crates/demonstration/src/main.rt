@@ -262,7 +262,9 @@ fn pages(rt: &impl Print, s: Site) -> io::Result<()> {
 fn main(rt: HostRuntime) -> io::Result<()> {
     let file = plan();
     tell_plan(&rt, graphfile::check(&file))?;
-    println!(rt; "\nController 3 lies: its first word to grower 0 is for 70 percent, its first word to grower 1 for 40.")?;
+    println!(rt;
+        "\nController 3 lies: its first word to grower 0 is for 70 percent, its first word to grower 1 for 40."
+    )?;
     let s1 = play(
         &rt,
         start(),

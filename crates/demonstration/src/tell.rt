@@ -11,7 +11,9 @@ use std::io;
 // Who is there, whether the trust plan is accepted, and how to read the lines that follow.
 pub fn tell_plan(rt: &impl Print, a: Answer) -> io::Result<()> {
     println!(rt; "House 1 bay 12 has four controllers, 0 to 3, and three growers, 0 to 2.")?;
-    println!(rt; "Grower 0 goes by any three controllers, grower 1 by 0, 1 and 2 together, grower 2 by 0 and 1.")?;
+    println!(rt;
+        "Grower 0 goes by any three controllers, grower 1 by 0, 1 and 2 together, grower 2 by 0 and 1."
+    )?;
     match a {
         Answer::Accepted => {
             println!(rt; "The trust plan is accepted.")?;
@@ -21,7 +23,9 @@ pub fn tell_plan(rt: &impl Print, a: Answer) -> io::Result<()> {
             refused(rt, r)?;
         }
     }
-    println!(rt; "1a: a proposal. 1b: a controller's answer to it. 2a: a controller's vote. The value is the percentage.")
+    println!(rt;
+        "1a: a proposal. 1b: a controller's answer to it. 2a: a controller's vote. The value is the percentage."
+    )
 }
 
 // Who sends what to whom.
@@ -123,19 +127,29 @@ pub fn tell_page(rt: &impl Print, grower: u64, r: Report) -> io::Result<()> {
 
 // What comes next in the first part.
 pub fn tell_returns(rt: &impl Print) -> io::Result<()> {
-    println!(rt; "What controller 0 sent returns to it. It has voted for every grower, so it has nothing to add.")
+    println!(rt;
+        "What controller 0 sent returns to it. It has voted for every grower, so it has nothing to add."
+    )
 }
 
 // What the second part showed, and what the third is.
 pub fn tell_no_vote(rt: &impl Print) -> io::Result<()> {
-    println!(rt; "Controllers 1, 2 and 3 answered round 6, but no vote follows: 1 and 2 have voted for 70 percent.")?;
+    println!(rt;
+        "Controllers 1, 2 and 3 answered round 6, but no vote follows: 1 and 2 have voted for 70 percent."
+    )?;
     println!(rt; "\nThe rest of round 5 reaches the growers, out of order.")
 }
 
 // The theorem that the growers can count on.
 pub fn tell_why(rt: &impl Print) -> io::Result<()> {
-    println!(rt; "\nWhy they agree although controller 3 lied: for each two growers the trust plan has controllers 0, 1")?;
-    println!(rt; "and 2 as a safe set, and none of these told two stories. No two growers then show different values,")?;
-    println!(rt; "whatever is sent and in whatever order it comes, as long as no two messages have one SHA-256.")?;
+    println!(rt;
+        "\nWhy they agree although controller 3 lied: for each two growers the trust plan has controllers 0, 1"
+    )?;
+    println!(rt;
+        "and 2 as a safe set, and none of these told two stories. No two growers then show different values,"
+    )?;
+    println!(rt;
+        "whatever is sent and in whatever order it comes, as long as no two messages have one SHA-256."
+    )?;
     println!(rt; "This is the theorem AgreementOverLists, proved in crates/round.")
 }
