@@ -8,8 +8,8 @@ use digest::sha256;
 use papers::{
     first_vote, g0, g1, joined_vote, next_vote, on_p, p, p_id, p_with, proposal, z1, z1_id, z2,
 };
-use std::io;
 use roundbytes::{COUNTS_AT, HELD_AT, LAST_AT, OWN_AT, RECENT_AT, REFERENCES_AT};
+use std::io;
 
 mod calls;
 mod papers;

@@ -1,4 +1,4 @@
-use Rattle.std.proofs.Common.{◌≡◌, ℕ, zero, suc, ◌+◌, ◌<◌, ◌≤◌, Bool, true, false, not, ◌||◌, eqb, ltb, List, [], length, get_or, replicate, sym, refl, ap, ◌∙◌, ap₂, arith, rules, le-ltb, lt-ltb, eq-eqb}
+use Rattle.std.proofs.Common.{◌≡◌, ℕ, zero, suc, ◌+◌, ◌<◌, ◌≤◌, Bool, true, false, not, ◌||◌, eqb, ltb, List, [], length, get_or, replicate, sym, refl, ap, ◌∙◌, ap₂, arith, le-ltb, lt-ltb, eq-eqb}
 use lib.ListN.{length-replicate, get_or-replicate}
 use Rattle.base.specs.Tests.{pick}
 use Rattle.base.specs.declared.refusal.Refusal.TheVariants.{Argument}
@@ -14,8 +14,7 @@ use Rattle.round.specs.Delivery.{Result, refused, taken, delivery}
 use Rattle.roundbytes.specs.Layout.{round_len, round_in}
 use Rattle.engine.specs.Calls.{deliver_answer, reply_to}
 use Rattle.round_samples.specs.Calls.{blank, blanks, outcome_in64, left_by, differing_in}
-use Rattle.round_samples.proofs.calls.cramped.Statement.{statement}
-use Rattle.round_samples.proofs.calls.cramped.Tie as tie
+use Rattle.round_samples.proofs.calls.cramped.Goals as goal
 
 -- ---- a reply buffer that is too short: 17, and every byte as it was
 module _ (r : Round) (d : Result) (s : List ℕ) where
@@ -58,55 +57,16 @@ module _ (r b s after : List ℕ) (e : s ≡ blanks 4138) where
       let g : after ≡ blanks 4138 = f ∙ (too_short r b s (omega (arith, ap length e, blank_length 4138))).1 ∙ e in
       ap (λ (l : List ℕ). differing_in (length l) l []) g ∙ blank_still 4138
 
-short-requires : tie.Need-short-requires
-short-requires c κs = search rules
+pub returns-then-differing-ne0 : goal.returns-then-differing-ne0
+returns-then-differing-ne0 c =
+    let a = c.args in
+    let z = nothing_written a.round.bytes a.bytes.now c.short-reply.result c.deliver-outcome.new.reply c.short-reply.ensures c.deliver-outcome.ensures.1.1 in
+    absurd (c.if-differing-ne0.true (c.differing.ensures ∙ z))
 
-slice-aggregate-deliver : tie.Need-slice-aggregate-deliver
-slice-aggregate-deliver c = search rules
-
-slice-aggregate-deliver-2 : tie.Need-slice-aggregate-deliver-2
-slice-aggregate-deliver-2 c = search rules
-
-deliver-requires : tie.Need-deliver-requires
-deliver-requires c κs = search rules
-
-slice-aggregate-differing : tie.Need-slice-aggregate-differing
-slice-aggregate-differing c = search rules
-
-slice-aggregate-differing-2 : tie.Need-slice-aggregate-differing-2
-slice-aggregate-differing-2 c = search rules
-
-differing-requires : tie.Need-differing-requires
-differing-requires c κs = search rules
-
-returns : tie.Need-returns
+pub returns : goal.returns
 returns c =
-    let a = c.before.before.before.before.before.before.before.before.before.before.before.before.args in
-    let z = nothing_written a.round.bytes a.bytes.now c.before.before.before.before.before.before.before.before.before.before.short.result c.before.before.before.before.before.before.deliver.new.1.1.0 c.before.before.before.before.before.before.before.before.before.before.short.ensures c.before.before.before.before.before.before.deliver.ensures.1.1 in
-    absurd (c.if1.true (c.before.differing.ensures ∙ z))
-
-outcome-number-requires : tie.Need-outcome-number-requires
-outcome-number-requires c κs = search rules
-
-returns-2 : tie.Need-returns-2
-returns-2 c =
-    let a = c.before.before.before.before.before.before.before.before.before.before.before.before.before.args in
-    c.outcome-number.ensures
+    let a = c.args in
+    c.outcome_number.ensures
     ∙ ap
     (λ (o : Outcome). outcome_in64 o)
-    (c.before.before.before.before.before.before.before.deliver.ensures.0 ∙ refused_so a.round.bytes a.bytes.now c.before.before.before.before.before.before.before.before.before.before.before.short.result [] c.before.before.before.before.before.before.before.before.before.before.before.short.ensures)
-
-pub cramped-spec : {M : Type 1} → statement M
-cramped-spec =
-    tie.close
-    (tie.spec
-    short-requires
-    slice-aggregate-deliver
-    slice-aggregate-deliver-2
-    deliver-requires
-    slice-aggregate-differing
-    slice-aggregate-differing-2
-    differing-requires
-    returns
-    outcome-number-requires
-    returns-2)
+    (c.deliver-outcome.ensures.0 ∙ refused_so a.round.bytes a.bytes.now c.short-reply.result [] c.short-reply.ensures)

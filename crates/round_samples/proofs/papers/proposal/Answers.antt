@@ -1,8 +1,7 @@
 use Rattle.std.proofs.Common.{◌≡◌, ℕ, ◌+◌, ◌*◌, ◌/◌, ◌%◌, ◌<◌, List, [], ◌∷◌, ap, arith}
 use Rattle.base.specs.Bytes.{bytes}
 use Rattle.base.specs.Ballots.{ballot_of}
-use Rattle.round_samples.proofs.papers.proposal.Statement.{statement}
-use Rattle.round_samples.proofs.papers.proposal.Tie as tie
+use Rattle.round_samples.proofs.papers.proposal.Goals as goal
 
 -- a round number and a value of one byte each
 small : (r v : ℕ) → r < 256 → v < 256 → 0 ∷ 0 ∷ 0 ∷ r ∷ 0 ∷ 0 ∷ 0 ∷ v ∷ [] ≡ bytes 8 (ballot_of r v)
@@ -19,12 +18,9 @@ small r v hr hv =
     let b0 : v ≡ x % 256 = omega arith in
     λ i. b7 i ∷ b6 i ∷ b5 i ∷ b4 i ∷ b3 i ∷ b2 i ∷ b1 i ∷ b0 i ∷ []
 
-returns : tie.Need-returns
+pub returns : goal.returns
 unfolding bytes
 returns c =
     ap
     (λ (l : List ℕ). 0 ∷ 15 ∷ 1 ∷ 1 ∷ 0 ∷ 1 ∷ 0 ∷ 12 ∷ 0 ∷ l)
     (small c.args.round c.args.value c.ranges.round.fits c.ranges.value.fits)
-
-pub proposal-spec : {M : Type 1} → statement M
-proposal-spec = tie.close (tie.spec returns)
