@@ -1,6 +1,6 @@
 /* One house and bay, one controller, one vent computer: a proposal is made, voted on and agreed. Ends with 0 if every answer is the expected one.
 
-       gcc -Iinclude examples/first_round.c -Ltarget/staticlib -lhpaxos -o first_round && ./first_round */
+       gcc -Iinclude examples/first_round.c -Lcrates/hpaxos/out -lhpaxos -o first_round && ./first_round */
 #include <stdio.h>
 
 #include "hpaxos.h"

@@ -1,6 +1,6 @@
 //! The same as first_round.c: one house and bay, one controller, one vent computer. Ends with 0 if the page says agreed, value 70.
 //!
-//!     rustc -O --edition 2021 examples/first_round.rs -Ltarget/staticlib -lhpaxos -o first_round && ./first_round
+//!     rustc -O --edition 2021 examples/first_round.rs -Lcrates/hpaxos/out -lhpaxos -o first_round && ./first_round
 
 // The names of include/hpaxos.h.
 const HPAXOS_ACCEPTED: u32 = 0;

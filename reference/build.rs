@@ -1,5 +1,5 @@
 //! Tells the linker where the static library of the C interface is: the folder
-//! in `HPAXOS_STATICLIB`, or the one that `rt staticlib hpaxos` writes.
+//! in `HPAXOS_STATICLIB`, or the one that `rt lib` writes in crates/hpaxos.
 
 use std::env;
 use std::path::{Path, PathBuf};
@@ -15,7 +15,7 @@ fn main() {
     let package = env::var("CARGO_MANIFEST_DIR").expect("cargo names the package's folder");
     let folder = env::var_os("HPAXOS_STATICLIB")
         .map(PathBuf::from)
-        .unwrap_or_else(|| Path::new(&package).join("../target/staticlib"));
+        .unwrap_or_else(|| Path::new(&package).join("../crates/hpaxos/out"));
     println!("cargo:rerun-if-changed={}", folder.join("libhpaxos.a").display());
     println!("cargo:rustc-link-search=native={}", folder.display());
     println!("cargo:rustc-link-lib=static=hpaxos");
