@@ -1,5 +1,5 @@
 -- FIPS 180-4, section 6.2: SHA-256. A State is the eight working variables a, .., h, and also the eight words H_0, .., H_7 of a hash value.
-use Rattle.std.specs.Prelude.{ℕ, zero, suc, ◌+◌, ◌-◌, ◌/◌, List, [], ◌∷◌, ◌++◌, length, slice_index, slice_index_or}
+use Rattle.std.specs.Prelude.{ℕ, zero, suc, ◌+◌, ◌-◌, ◌/◌, List, [], ◌∷◌, ◌++◌, length, slice_index}
 use Rattle.base.specs.Bytes.{bytes}
 use Rattle.digest.specs.declared.State.{State}
 use Rattle.digest.specs.Operations.{◌⊞◌}
@@ -9,7 +9,7 @@ use Rattle.digest.specs.Preprocessing.{padded, block, words, initial}
 
 -- 6.2.2 step 1, for 16 ≤ t ≤ 63: W_t from the words before it
 unfoldable pub next_word : List ℕ → ℕ → ℕ
-next_word w t = σ1 (slice_index w (t - 2)) ⊞ slice_index_or w (t - 7) 0 ⊞ σ0 (slice_index w (t - 15)) ⊞ slice_index_or w (t - 16) 0
+next_word w t = σ1 (slice_index w (t - 2)) ⊞ slice_index w (t - 7) ⊞ σ0 (slice_index w (t - 15)) ⊞ slice_index w (t - 16)
 
 -- 6.2.2 step 1: the message schedule, the 16 words of a block and n more
 unfoldable pub extended : ℕ → List ℕ → List ℕ
