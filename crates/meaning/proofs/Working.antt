@@ -17,9 +17,8 @@ use Rattle.base.specs.Ballots.{value_of}
 use Rattle.graph.specs.LearnerGraph.{LearnerGraph, is_quorum, safe_without}
 use Rattle.graph.proofs.LearnerGraph.{quorum_cong, without_cong}
 use Rattle.protocol.specs.Ids.{Id, same_id, same_previous}
-use Rattle.protocol.specs.Message.{Message, is1b, is2a, ballot, value, forks}
+use Rattle.protocol.specs.Message.{Message, is1b, is2a, value, forks}
 use Rattle.protocol.specs.Learners.{fresh, lrns}
-use Rattle.protocol.specs.WellFormed.{formed1b, formed2a}
 use Rattle.protocol.specs.Table.{Held, says, Table, at, held_id, held_signer, held_previous, offered, places, Ordered, node_by, tree, reach}
 use Rattle.protocol.specs.Inside.Places.{is1b_at, is2a_at, ballot_at, value_at, caught_at, con_at, buried_at, fresh_at, lrns_at, repeats_at}
 use Rattle.protocol.proofs.Ids.{same_id_law, same_previous_law}

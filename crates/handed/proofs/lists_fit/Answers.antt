@@ -2,7 +2,6 @@ use Prim.Native.Nat.{ℕ, ◌≤◌, ◌*◌, ◌+◌}
 use native.Mathlib.Nat.{mul-le-mul_right}
 use native.Mathlib.Omega.{arith}
 use mathlib.Core.Path.{◌≡◌, refl, sym, ◌∙◌, ap}
-use mathlib.Core.Bool.{true}
 use Rattle.graph.specs.Limits.{max_learners, lists}
 use Rattle.base.specs.Tests.{all, below}
 use Rattle.round.specs.Handed.{list_fits}

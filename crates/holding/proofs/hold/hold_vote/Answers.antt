@@ -18,7 +18,6 @@ use Rattle.round.specs.Delivery.{previous_place, with_row, hold}
 use Rattle.message.specs.Layout.{acceptor_kind}
 use Rattle.protocol.specs.Table.{says}
 use Rattle.round.specs.Round.{Round}
-use Rattle.round.specs.Rows.{room}
 use Rattle.round.specs.Holdings.{named}
 use Rattle.holding.proofs.hold.hold_vote.Goals as goal
 

@@ -12,9 +12,7 @@ use Rattle.base.specs.Bytes.{put_at, bytes, part}
 use Rattle.round.specs.Delivery.{with_row}
 use Rattle.base.proofs.Bytes.{bytes_length, part_length}
 use Rattle.roundbytes.proofs.InPlace.{put_next, unwritten, one_next, of_parts, numbers_put, round_then}
-use Rattle.protocol.specs.Message.{signers, references}
 use Rattle.roundbytes.proofs.Fields.{held_in_lem}
-use Rattle.round.specs.Handed.{fits}
 use Rattle.holding.proofs.hold.put_row.Goals as goal
 
 -- the nine writes, one after the other, are the row

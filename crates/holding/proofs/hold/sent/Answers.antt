@@ -3,7 +3,6 @@ use Prim.Native.Nat.{ℕ, ◌≤◌}
 use lib.ListN.{length, replicate, set, length-set}
 use mathlib.Core.Path.{◌≡◌, ◌∙◌, sym, ap}
 use native.Mathlib.Omega.{arith}
-use mathlib.Core.Option.{none}
 use Rattle.roundbytes.specs.Layout.{round_len, recent_at, last_at, round_in}
 use Rattle.roundbytes.specs.Inside.Keeping.{Kept}
 use Rattle.round.specs.Limits.{max_held}

@@ -18,6 +18,10 @@ returns c =
     let l = lacks r (reference_ids b a.m) in
     let u = unchained r a.m.signer (reference_ids b a.m) (previous_id b a.m) in
     let ruled : c.chain_row-row.result ≡ row_of (chain_row l u) = c.chain_row-row.ensures ∙ (λ k. row_of (chain_row (references.ensures.ruled k) (previous.ensures.ruled k))) in
-    let whole : length references.result.places ≡ max_held = search rules in record { ruled = ruled; resolved = λ h.
-            let clear = chain_none l u (row_clear (chain_row l u) (sym ruled ∙ h)) in
-            record { signed = refl; back = previous.ensures.placed (previous.ensures.ruled ∙ clear.1); listed = references.ensures.placed (references.ensures.ruled ∙ clear.0) }; whole = (refl, whole) }
+    let whole : length references.result.places ≡ max_held = search rules in record {
+      ruled = ruled;
+      resolved = λ h.
+          let clear = chain_none l u (row_clear (chain_row l u) (sym ruled ∙ h)) in
+          record { signed = refl; back = previous.ensures.placed (previous.ensures.ruled ∙ clear.1); listed = references.ensures.placed (references.ensures.ruled ∙ clear.0) };
+      whole = (refl, whole);
+    }
