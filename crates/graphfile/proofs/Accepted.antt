@@ -16,7 +16,7 @@ use Rattle.base.specs.declared.refusal.Refusal.{Refusal}
 use Rattle.base.specs.declared.refusal.Refusal.TheVariants.{Length, Version, Range, NotValid, NotCondensed}
 use Rattle.graph.specs.declared.Answer.TheVariants.{Accepted, Refused}
 use Rattle.graph.specs.declared.Graph.{Graph}
-use Rattle.graph.specs.Limits.{version, max_learners, max_acceptors, mask_bytes}
+use Rattle.graph.specs.Limits.{max_learners, max_acceptors, mask_bytes}
 use Rattle.graph.specs.LearnerGraph.{LearnerGraph, valid, condensed}
 use Rattle.graphfile.specs.File.{outer_len, version_at, acceptors_at, learners_at, lists_at, Got, got, no, mask_answer, read_version, read_count, read_masks, read_list, read_lists, read_rows, Contents, read_graph, contents, graph_said, answer_of, contents_answer}
 use Rattle.graph.specs.Memory.{view_of, pair_list, triangle, list_of}

@@ -21,7 +21,6 @@ use Rattle.graph.specs.Memory.{view_of}
 use Rattle.graph.specs.Theorems.{SameGraph}
 use Rattle.graph.proofs.Same.{valid_same, condensed_same}
 use Rattle.graphfile.specs.declared.file.Field.{Field}
-use Rattle.graphfile.specs.declared.file.Field.TheVariants as Field
 use Rattle.graphfile.specs.declared.Reading.{Reading}
 use Rattle.graphfile.specs.File.{outer_len, version_at, acceptors_at, learners_at, lists_at, Got, got, no, and_then, read_count, read_lists, read_rows, Contents, read_graph, contents, graph_said, answer_of, contents_answer}
 use Rattle.graphfile.specs.Arrays.{ListArrays, hold_all, hold_rows, nothing, held_in, held_of, graph_of_held, refused_reading, graph_reading, contents_reading, reading_of, held_reading, answered_reading}

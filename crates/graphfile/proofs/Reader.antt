@@ -20,7 +20,6 @@ use Rattle.base.specs.declared.refusal.Refusal.TheVariants.{Length, Range, Order
 use Rattle.graph.specs.declared.Answer.{Answer}
 use Rattle.graph.specs.declared.Answer.TheVariants.{Accepted, Refused}
 use Rattle.graphfile.specs.declared.file.Field.{Field}
-use Rattle.graphfile.specs.declared.file.Field.TheVariants as Field
 use Rattle.graph.specs.Limits.{max_masks}
 use Rattle.graphfile.specs.File.{Got, got, no, and_then, after_check, last, mask_answer, read_count, read_masks, read_list, read_lists, read_rows, Contents, read_graph}
 use Rattle.graph.specs.Memory.{pair_list}

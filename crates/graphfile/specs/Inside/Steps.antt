@@ -6,7 +6,6 @@ use Rattle.graph.specs.declared.Answer.TheVariants.{Accepted, Refused}
 use Rattle.graph.specs.Limits.{max_acceptors, max_learners, mask_bytes}
 use Rattle.graph.specs.Memory.{list_of, pair_list, GraphSized}
 use Rattle.graphfile.specs.declared.file.Field.{Field}
-use Rattle.graphfile.specs.declared.file.Field.TheVariants as Field
 use Rattle.graphfile.specs.File.{most_said, acceptors_at, learners_at, lists_at, Got, got, no, contents, read_graph}
 use Rattle.graphfile.specs.Arrays.{ListArrays}
 use Rattle.graphfile.specs.Writer.{listed, rows_from}

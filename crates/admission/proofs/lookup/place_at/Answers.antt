@@ -4,7 +4,6 @@ use lib.ListN.{length}
 use mathlib.Core.Path.{◌≡◌, ap, sym, refl, ◌∙◌}
 use native.Mathlib.Omega.{arith}
 use mathlib.Core.Bool.{true, false}
-use mathlib.Core.Logic.{⊎_elim}
 use native.Mathlib.Numerals.{add-one}
 use Rattle.protocol.specs.Ids.{Id, same_id}
 use Rattle.roundbytes.specs.Layout.{round_len, round_in, ids_at}
@@ -49,9 +48,9 @@ loop-p-preserved c =
     let long = c.requires.0.long in
     let within = id_within a.s.now l.p long (omega arith) in
     let not-here : has_id r i l.p ≡ false = same_here a.s.now l.p i long (omega arith) ∙ elim c.else-read64-first.branch [
-      else-read64-first-via-then-read64-first+else-same_rest w ↦ sym w.same_rest.ensures ∙ w.if-same_rest.false
+      | else-read64-first-via-then-read64-first+else-same_rest w ↦ sym w.same_rest.ensures ∙ w.if-same_rest.false
       | else-read64-first-via-else-read64-first w ↦ first_differs a.s.now a.bytes.now (λ k. omega (arith, c.type_inv.s k)) (λ k. omega (arith, c.type_inv.bytes k))
-        (ids_at + id_len * l.p) a.at within c.requires.1 (λ e. omega arith)
+          (ids_at + id_len * l.p) a.at within c.requires.1 (λ e. omega arith)
     ] in
     (omega arith, (l.invariant.1.0, ap (lowest (has_id r i)) (add-one l.p) ∙ lowest_miss (has_id r i) l.p l.invariant.1.1 not-here))
 

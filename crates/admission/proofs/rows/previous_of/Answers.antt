@@ -58,8 +58,11 @@ pub returns-then-not-is_among : goal.returns-then-not-is_among
 returns-then-not-is_among c =
     let a = c.args in
     let r = round_in a.s.now in
-    let t = sym c.is_among.ensures ∙ c.if-not-is_among.true in record { ruled = sym (unchained_by r a.bytes.now a.m c.references_at.result (not-false _ c.if-not-m.false) c.references_at.ensures.0
-          ∙ ap (λ (b : Bool). not (b && placed (is_vote_of r a.m.signer) (place_of r (part id_len a.bytes.now previous_at)))) t); placed = λ e. absurd (subst T e tt) }
+    let t = sym c.is_among.ensures ∙ c.if-not-is_among.true in record {
+      ruled = sym (unchained_by r a.bytes.now a.m c.references_at.result (not-false _ c.if-not-m.false) c.references_at.ensures.0
+          ∙ ap (λ (b : Bool). not (b && placed (is_vote_of r a.m.signer) (place_of r (part id_len a.bytes.now previous_at)))) t);
+      placed = λ e. absurd (subst T e tt);
+    }
 
 pub place_at-requires : goal.place_at-requires
 place_at-requires c =
@@ -72,8 +75,11 @@ returns-in_default c =
     let a = c.args in
     let r = round_in a.s.now in
     let t = sym c.is_among.ensures ∙ c.if-not-is_among.false in
-    let o : place_of r (part id_len a.bytes.now previous_at) ≡ none = sym c.place_at.ensures ∙ ap place_found c.in_default.is in record { ruled = sym (unchained_by r a.bytes.now a.m c.references_at.result (not-false _ c.if-not-m.false) c.references_at.ensures.0
-          ∙ (λ k. not (t k && placed (is_vote_of r a.m.signer) (o k)))); placed = λ e. absurd (subst T e tt) }
+    let o : place_of r (part id_len a.bytes.now previous_at) ≡ none = sym c.place_at.ensures ∙ ap place_found c.in_default.is in record {
+      ruled = sym (unchained_by r a.bytes.now a.m c.references_at.result (not-false _ c.if-not-m.false) c.references_at.ensures.0
+          ∙ (λ k. not (t k && placed (is_vote_of r a.m.signer) (o k))));
+      placed = λ e. absurd (subst T e tt);
+    }
 
 pub is_vote_of-requires : goal.is_vote_of-requires
 is_vote_of-requires c =
@@ -93,6 +99,9 @@ returns c =
     let r = round_in a.s.now in
     let t = sym c.is_among.ensures ∙ c.if-not-is_among.false in
     let o = found_at r (part id_len a.bytes.now previous_at) _ c.place_at.ensures _ c.in-At.is in
-    let named : previous_id a.bytes.now a.m ≡ some (part id_len a.bytes.now previous_at) = let e : a.m.previous ≡ true = not-false _ c.if-not-m.false in simp e in record { ruled = ap not c.is_vote_of.ensures
+    let named : previous_id a.bytes.now a.m ≡ some (part id_len a.bytes.now previous_at) = let e : a.m.previous ≡ true = not-false _ c.if-not-m.false in simp e in record {
+      ruled = ap not c.is_vote_of.ensures
           ∙ sym (unchained_by r a.bytes.now a.m c.references_at.result (not-false _ c.if-not-m.false) c.references_at.ensures.0
-          ∙ (λ k. not (t k && placed (is_vote_of r a.m.signer) (o k)))); placed = λ _. sym (ap (previous_place r) named ∙ ap or_zero o) }
+          ∙ (λ k. not (t k && placed (is_vote_of r a.m.signer) (o k))));
+      placed = λ _. sym (ap (previous_place r) named ∙ ap or_zero o);
+    }

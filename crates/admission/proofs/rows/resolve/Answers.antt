@@ -65,8 +65,11 @@ returns-then-known_at-eq0 c =
     let at = c.references_at-at in
     let i = part id_len a.bytes.now (at.result + id_len * l.i) in
     let o = found_at r i _ c.place_at.ensures _ c.in-At.is in
-    let t = c.known_at.ensures in record { ruled = sym (lacks_by r a.bytes.now a.m at.result false at.ensures.0 (lacking (is_known_id r) a.bytes.now at.result a.m.count l.i (omega arith) l.invariant.1.1.0
-          (ap (placed (is_known r)) o ∙ ap not (eq-eqb _ 0 (sym t ∙ c.if-known_at-eq0.true))))); placed = λ e. absurd (subst T e tt) }
+    let t = c.known_at.ensures in record {
+      ruled = sym (lacks_by r a.bytes.now a.m at.result false at.ensures.0 (lacking (is_known_id r) a.bytes.now at.result a.m.count l.i (omega arith) l.invariant.1.1.0
+          (ap (placed (is_known r)) o ∙ ap not (eq-eqb _ 0 (sym t ∙ c.if-known_at-eq0.true)))));
+      placed = λ e. absurd (subst T e tt);
+    }
 
 pub overflow_cast-places : goal.overflow_cast-places
 overflow_cast-places c =

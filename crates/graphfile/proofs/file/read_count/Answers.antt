@@ -2,7 +2,6 @@ use mathlib.Core.Path.{ap}
 use lib.ListN.{length, get_or}
 use borrow.Author.Tests.{lt-ltb, le-ltb, le-leb, lt-leb}
 use Rattle.graphfile.specs.declared.file.Field.{Field}
-use Rattle.graphfile.specs.declared.file.Field.TheVariants as Field
 use native.Mathlib.Omega.{arith}
 use Rattle.graphfile.proofs.file.read_count.Goals as goal
 

@@ -5,7 +5,6 @@ use Rattle.graph.specs.Limits.{max_masks}
 use Rattle.graphfile.specs.File.{Got, and_then, read_count, read_masks, read_list}
 use Rattle.graphfile.specs.Inside.Steps.{MasksHeld}
 use Rattle.graphfile.specs.declared.file.Field.{Field}
-use Rattle.graphfile.specs.declared.file.Field.TheVariants as Field
 use Rattle.graphfile.proofs.Reader.{value_no, count_is}
 use native.Mathlib.Omega.{arith}
 use Rattle.graphfile.proofs.file.read_list.Goals as goal

@@ -7,9 +7,7 @@ use Rattle.graphfile.specs.File.{Got, last, mask_answer, read_masks}
 use Rattle.graphfile.specs.Inside.Steps.{MasksHeld}
 use Rattle.graph.specs.Limits.{mask_bytes}
 use Rattle.graph.specs.declared.Answer.{Answer}
-use Rattle.graph.specs.declared.Answer.TheVariants as Answer
 use Rattle.graphfile.specs.declared.file.Field.{Field}
-use Rattle.graphfile.specs.declared.file.Field.TheVariants as Field
 use lib.Seq.{paste-zero}
 use Rattle.base.specs.declared.refusal.Refusal.TheVariants.{Length}
 use Rattle.graphfile.proofs.Reader.{last_snoc, part_put, put_more, masks_short, masks_go}

@@ -2,7 +2,7 @@ use mathlib.Core.Path.{◌≡◌}
 use Prim.Native.Nat.{ℕ, ◌≤◌, ◌-◌}
 use lib.ListN.{length}
 use mathlib.Core.List.{List, []}
-use Rattle.base.specs.Bytes.{be, put_at}
+use Rattle.base.specs.Bytes.{put_at}
 use Rattle.graphfile.specs.File.{last, read_masks}
 use Rattle.graphfile.proofs.file.read_masks.Given as goal
 

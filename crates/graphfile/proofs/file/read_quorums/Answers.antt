@@ -4,7 +4,6 @@ use lib.ListN.{get_or, length-set}
 use mathlib.Core.List.{List}
 use Rattle.graphfile.specs.File.{Got}
 use Rattle.graphfile.specs.declared.file.Field.{Field}
-use Rattle.graphfile.specs.declared.file.Field.TheVariants as Field
 use Rattle.graphfile.specs.Arrays.{hold_all}
 use Rattle.graphfile.specs.Inside.Steps.{HeldAfter}
 use Rattle.graphfile.proofs.Reader.{filled_none, filled_no, filled_got, filled_more, filled_all}

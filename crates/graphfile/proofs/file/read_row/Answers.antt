@@ -4,7 +4,6 @@ use lib.ListN.{get_or, set, length-set}
 use mathlib.Core.List.{List}
 use Rattle.graphfile.specs.File.{Got}
 use Rattle.graphfile.specs.declared.file.Field.{Field}
-use Rattle.graphfile.specs.declared.file.Field.TheVariants as Field
 use Rattle.graph.specs.Memory.{pair_list}
 use Rattle.graphfile.specs.Arrays.{hold_all}
 use Rattle.graphfile.specs.Inside.Steps.{HeldAfter}

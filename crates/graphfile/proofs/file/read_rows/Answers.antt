@@ -3,7 +3,6 @@ use Prim.Native.Nat.{ℕ}
 use mathlib.Core.List.{List}
 use Rattle.graphfile.specs.File.{Got}
 use Rattle.graphfile.specs.declared.file.Field.{Field}
-use Rattle.graphfile.specs.declared.file.Field.TheVariants as Field
 use Rattle.graphfile.specs.Arrays.{hold_rows}
 use Rattle.graphfile.specs.Inside.Steps.{HeldAfter}
 use Rattle.graphfile.proofs.Reader.{rows_none, rows_no, rows_filled, rows_all}
