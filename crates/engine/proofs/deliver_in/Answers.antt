@@ -65,8 +65,11 @@ returns-in-Refused c =
     let b = a.bytes.now in
     let f = ap not (sym c.fits.ensures) in
     let e = c.in-Refused.e in
-    let x = left (Refused e) s in record { given = told sha256 r b a.reply.now x a.reply.now
-          (let_in sha256 r b a.reply.now x a.reply.now (reading.Refused e) (f ∙ (ap not c.if-not-fits.false)) c.if-reply-lt-MAX_LEN.false (sym c.read.ensures ∙ c.in-Refused.is) (unread sha256 r b a.reply.now x e refl)); kept = (refl, refl) }
+    let x = left (Refused e) s in record {
+      given = told sha256 r b a.reply.now x a.reply.now
+          (let_in sha256 r b a.reply.now x a.reply.now (reading.Refused e) (f ∙ (ap not c.if-not-fits.false)) c.if-reply-lt-MAX_LEN.false (sym c.read.ensures ∙ c.in-Refused.is) (unread sha256 r b a.reply.now x e refl));
+      kept = (refl, refl);
+    }
 
 pub returns-in-OfProposer : goal.returns-in-OfProposer
 returns-in-OfProposer c =
@@ -78,9 +81,12 @@ returns-in-OfProposer c =
     let m = c.in-OfProposer.m in
     let v = c.take_proposal in
     let x = left v.result v.new.s in
-    let after = v.new.reply in record { given = told sha256 r b a.reply.now x after
+    let after = v.new.reply in record {
+      given = told sha256 r b a.reply.now x after
           (let_in sha256 r b a.reply.now x after (reading.OfProposer m) (f ∙ (ap not c.if-not-fits.false)) c.if-reply-lt-MAX_LEN.false (sym c.read.ensures ∙ c.in-OfProposer.is)
-          (subst (λ (i : Id). Gives (proposal_taken sha256 r i m) x a.reply.now after) c.sha256-id.ensures v.ensures.given)); kept = v.ensures.kept }
+          (subst (λ (i : Id). Gives (proposal_taken sha256 r i m) x a.reply.now after) c.sha256-id.ensures v.ensures.given));
+      kept = v.ensures.kept;
+    }
 
 pub returns-in-OfAcceptor : goal.returns-in-OfAcceptor
 returns-in-OfAcceptor c =
@@ -92,6 +98,9 @@ returns-in-OfAcceptor c =
     let m = c.in-OfAcceptor.m in
     let v = c.take_vote in
     let x = left v.result v.new.s in
-    let after = v.new.reply in record { given = told sha256 r b a.reply.now x after
+    let after = v.new.reply in record {
+      given = told sha256 r b a.reply.now x after
           (let_in sha256 r b a.reply.now x after (reading.OfAcceptor m) (f ∙ (ap not c.if-not-fits.false)) c.if-reply-lt-MAX_LEN.false (sym c.read.ensures ∙ c.in-OfAcceptor.is)
-          (subst (λ (i : Id). Gives (acceptor_taken sha256 r i m (previous_id b m) (reference_ids b m)) x a.reply.now after) c.sha256-id-in-OfAcceptor.ensures v.ensures.given)); kept = v.ensures.kept }
+          (subst (λ (i : Id). Gives (acceptor_taken sha256 r i m (previous_id b m) (reference_ids b m)) x a.reply.now after) c.sha256-id-in-OfAcceptor.ensures v.ensures.given));
+      kept = v.ensures.kept;
+    }

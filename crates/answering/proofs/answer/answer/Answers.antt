@@ -68,8 +68,11 @@ returns-then-not-is_sent c =
     let b = is_sent r (message_of r (reply_record r (sha256 (reply_bytes r a.p)) a.p)) in
     let same : record_of r c.sha256-id.result z.result.vote ≡ reply_record r (sha256 (reply_bytes r a.p)) a.p =
     reply_record_lem r f a.p p.1.0.here z.result z.ensures.0 c.sha256-id.result ∙ ap (λ (j : Id). reply_record r j a.p) i in
-    let t : c.is_sent.result ≡ b = c.is_sent.ensures ∙ ap (λ (h : Held). is_sent r (message_of r h)) same in record { given = gives_second b (sent sha256 r a.p (reply_bytes r a.p)) (joins sha256 r a.p) (left c.join.result c.join.new.s) a.reply.now a.reply.now
-          (sym t ∙ c.if-not-is_sent.true) (c.join.ensures.given, front_none a.reply.now); kept = c.join.ensures.kept }
+    let t : c.is_sent.result ≡ b = c.is_sent.ensures ∙ ap (λ (h : Held). is_sent r (message_of r h)) same in record {
+      given = gives_second b (sent sha256 r a.p (reply_bytes r a.p)) (joins sha256 r a.p) (left c.join.result c.join.new.s) a.reply.now a.reply.now
+          (sym t ∙ c.if-not-is_sent.true) (c.join.ensures.given, front_none a.reply.now);
+      kept = c.join.ensures.kept;
+    }
 
 pub slice_bounds-put_all-end : goal.slice_bounds-put_all-end
 slice_bounds-put_all-end c =
@@ -118,8 +121,11 @@ returns c =
     let b = is_sent r (message_of r (reply_record r (sha256 (reply_bytes r a.p)) a.p)) in
     let same : record_of r c.sha256-id.result z.result.vote ≡ reply_record r (sha256 (reply_bytes r a.p)) a.p =
     reply_record_lem r f a.p p.1.0.here z.result z.ensures.0 c.sha256-id.result ∙ ap (λ (j : Id). reply_record r j a.p) i in
-    let t : c.is_sent.result ≡ b = c.is_sent.ensures ∙ ap (λ (h : Held). is_sent r (message_of r h)) same in record { given = gives_first b (sent sha256 r a.p (reply_bytes r a.p)) (joins sha256 r a.p) (left c.send.result c.send.new.s) a.reply.now c.put_all.new.buf
+    let t : c.is_sent.result ≡ b = c.is_sent.ensures ∙ ap (λ (h : Held). is_sent r (message_of r h)) same in record {
+      given = gives_first b (sent sha256 r a.p (reply_bytes r a.p)) (joins sha256 r a.p) (left c.send.result c.send.new.s) a.reply.now c.put_all.new.buf
           (sym t ∙ c.if-not-is_sent.false) (
             c.send.ensures.given ∙ (λ k. replies (reply_long r f a.p p.1.0.here z.result z.ensures.0 (replicate reply_len 0) now z.ensures.1 k) (with_recent (hold r (same k) 0) r.held (set (replicate max_held 0) r.held 1))),
             c.put_all.ensures ∙ ap (put_at a.reply.now 0) w ∙ put_front (reply_bytes r a.p) a.reply.now,
-          ); kept = c.send.ensures.kept }
+          );
+      kept = c.send.ensures.kept;
+    }

@@ -3,7 +3,6 @@ use mathlib.Core.Path.{ap, ◌∙◌, sym}
 use Rattle.admission.proofs.Finding.{found_inside}
 use Rattle.roundbytes.specs.Layout.{round_in}
 use Rattle.round.proofs.Fitting.{fits_out}
-use Rattle.judging.proofs.Voting.{refers}
 use Rattle.engine.proofs.Entering.{room_held}
 use Rattle.admission.specs.Inside.Finding.{place_found}
 use Rattle.round.specs.Delivery.{entered_in, entered_at}

@@ -92,5 +92,8 @@ returns c =
     let octets : Octets s = λ j. omega (arith, c.slice_known-1.given j) in
     let store = vote_storable r i a.vote can.takes.id_bytes (λ j. omega (arith, c.type_inv.id j)) can.refers in
     let e = c.enter_vote-p in
-    let x = c.process in record { given = taken_entered sha256 r i h row (left x.result x.new.s) a.reply.now x.new.reply clear
-          (entered_gives s octets i a.found may h store e.new.s e.result e.ensures sha256 (left x.result x.new.s) a.reply.now x.new.reply x.ensures.given); kept = kept_on s e.new.s x.new.s e.ensures.kept x.ensures.kept }
+    let x = c.process in record {
+      given = taken_entered sha256 r i h row (left x.result x.new.s) a.reply.now x.new.reply clear
+          (entered_gives s octets i a.found may h store e.new.s e.result e.ensures sha256 (left x.result x.new.s) a.reply.now x.new.reply x.ensures.given);
+      kept = kept_on s e.new.s x.new.s e.ensures.kept x.ensures.kept;
+    }

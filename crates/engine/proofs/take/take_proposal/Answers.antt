@@ -76,8 +76,11 @@ returns-then-lacks_room c =
     let o = other_round r a.m.house a.m.bay in
     let k = is_known_id r i in
     let f = full r i in
-    let known = c.is_known.ensures ∙ ap (placed (is_known r)) c.place_of-found.ensures in record { given = taken_refused sha256 r i h rows (left (Refused Full) s) a.reply.now Full
-          (proposal_row r i a.m ∙ three_full o k f (sym c.of_another.ensures ∙ c.if-of_another.false) (sym known ∙ c.if-is_known.false) (sym (c.lacks_room.ensures i c.place_of-found.ensures) ∙ c.if-lacks_room.true)) refl; kept = (refl, refl) }
+    let known = c.is_known.ensures ∙ ap (placed (is_known r)) c.place_of-found.ensures in record {
+      given = taken_refused sha256 r i h rows (left (Refused Full) s) a.reply.now Full
+          (proposal_row r i a.m ∙ three_full o k f (sym c.of_another.ensures ∙ c.if-of_another.false) (sym known ∙ c.if-is_known.false) (sym (c.lacks_room.ensures i c.place_of-found.ensures) ∙ c.if-lacks_room.true)) refl;
+      kept = (refl, refl);
+    }
 
 pub enter_proposal-p-requires : goal.enter_proposal-p-requires
 enter_proposal-p-requires c =
@@ -137,5 +140,8 @@ returns c =
     let store = proposal_storable r i a.m.proposer a.m.ballot can.id_bytes (λ j. omega (arith, c.type_inv.id j)) in
     let e = c.enter_proposal-p in
     let x = c.process_offer in
-    let known = c.is_known.ensures ∙ ap (placed (is_known r)) found in record { given = taken_entered sha256 r i h rows (left x.result x.new.s) a.reply.now x.new.reply (proposal_row r i a.m ∙ three_none o k f (sym c.of_another.ensures ∙ c.if-of_another.false) (sym known ∙ c.if-is_known.false) free)
-          (entered_gives s octets i c.place_of-found.result may h store e.new.s e.result e.ensures sha256 (left x.result x.new.s) a.reply.now x.new.reply x.ensures.given); kept = kept_on s e.new.s x.new.s e.ensures.kept x.ensures.kept }
+    let known = c.is_known.ensures ∙ ap (placed (is_known r)) found in record {
+      given = taken_entered sha256 r i h rows (left x.result x.new.s) a.reply.now x.new.reply (proposal_row r i a.m ∙ three_none o k f (sym c.of_another.ensures ∙ c.if-of_another.false) (sym known ∙ c.if-is_known.false) free)
+          (entered_gives s octets i c.place_of-found.result may h store e.new.s e.result e.ensures sha256 (left x.result x.new.s) a.reply.now x.new.reply x.ensures.given);
+      kept = kept_on s e.new.s x.new.s e.ensures.kept x.ensures.kept;
+    }

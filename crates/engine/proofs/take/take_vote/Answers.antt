@@ -53,8 +53,11 @@ returns-in-Applies-row c =
     let y = c.head_row in
     let told = y.ensures i found in
     let z = c.chain_row-chained in
-    let e = c.in-Applies-row.e in record { given = taken_refused sha256 r i (record_read r i b a.m) (rows r i b a.m) (left (Refused e) s) a.reply.now e
-          (by_chain r i b a.m y.result told c.in_default.is z.result.row z.ensures.ruled e c.in-Applies-row.is) refl; kept = (refl, refl) }
+    let e = c.in-Applies-row.e in record {
+      given = taken_refused sha256 r i (record_read r i b a.m) (rows r i b a.m) (left (Refused e) s) a.reply.now e
+          (by_chain r i b a.m y.result told c.in_default.is z.result.row z.ensures.ruled e c.in-Applies-row.is) refl;
+      kept = (refl, refl);
+    }
 
 pub settle-requires : goal.settle-requires
 settle-requires c =
@@ -94,5 +97,8 @@ returns c =
     let most = (fits_out r can.passes.fit).most in
     let clear = row_clear (chains r i b a.m) (sym z.ensures.ruled ∙ t) in
     let same = voted r most a.m.signer (previous_id b a.m) (reference_ids b a.m) z.result.vote (z.ensures.resolved t) clear i in
-    let v = c.settle in record { given = taken_settled sha256 r i b a.m (record_of r i z.result.vote) (left v.result v.new.s) a.reply.now v.new.reply same
-          (by_rest r i b a.m y.result told c.in_default.is z.result.row z.ensures.ruled t) v.ensures.given; kept = v.ensures.kept }
+    let v = c.settle in record {
+      given = taken_settled sha256 r i b a.m (record_of r i z.result.vote) (left v.result v.new.s) a.reply.now v.new.reply same
+          (by_rest r i b a.m y.result told c.in_default.is z.result.row z.ensures.ruled t) v.ensures.given;
+      kept = v.ensures.kept;
+    }
