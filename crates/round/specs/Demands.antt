@@ -14,7 +14,7 @@ use Rattle.message.specs.declared.AcceptorMessage.{AcceptorMessage}
 use Rattle.message.specs.declared.Reading.TheVariants.{OfProposer, OfAcceptor}
 use Rattle.protocol.specs.Ids.{Id}
 use Rattle.protocol.specs.Message.{Message}
-use Rattle.protocol.specs.Table.{tree, reach}
+use Rattle.protocol.specs.Table.{reach}
 use Rattle.round.specs.Round.{Round}
 use Rattle.round.specs.Limits.{listening}
 use Rattle.round.specs.Holdings.{graph_of, id_at, named, is_proposal_at, is_recent, table_of, known_places}
