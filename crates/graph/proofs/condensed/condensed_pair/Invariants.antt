@@ -5,9 +5,7 @@ use Rattle.graph.specs.Memory.{held_graph}
 use Rattle.graph.specs.LearnerGraph.{condensed_at}
 use Rattle.graph.proofs.condensed.condensed_pair.Given as goal
 
--- lemmas
 -- The invariant: the learners that are left decide.
--- needs
 abbrev pub invariant-loop-c : goal.invariant-loop-c
 invariant-loop-c l = (l.c ≤ l.learners) × (all (λ c. condensed_at (held_graph l.acceptors l.learners l.counts l.masks) l.a l.b c) (below l.learners) ≡ all (λ c. condensed_at (held_graph l.acceptors l.learners l.counts l.masks) l.a l.b c) (below l.c))
 

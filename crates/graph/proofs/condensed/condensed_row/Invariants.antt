@@ -5,9 +5,7 @@ use Rattle.graph.specs.Memory.{held_graph}
 use Rattle.graph.specs.LearnerGraph.{condensed_at}
 use Rattle.graph.proofs.condensed.condensed_row.Given as goal
 
--- lemmas
 -- The invariant: the learners that are left decide.
--- needs
 abbrev pub invariant-loop-b : goal.invariant-loop-b
 invariant-loop-b l = (l.b ≤ l.learners) × (all (λ b. all (λ c. condensed_at (held_graph l.acceptors l.learners l.counts l.masks) l.a b c) (below l.learners)) (below l.learners) ≡ all (λ b. all (λ c. condensed_at (held_graph l.acceptors l.learners l.counts l.masks) l.a b c) (below l.learners)) (below l.b))
 

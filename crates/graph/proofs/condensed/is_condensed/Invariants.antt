@@ -5,9 +5,7 @@ use Rattle.graph.specs.Memory.{held_graph}
 use Rattle.graph.specs.LearnerGraph.{condensed_at}
 use Rattle.graph.proofs.condensed.is_condensed.Given as goal
 
--- lemmas
 -- The invariant: the learners that are left decide.
--- needs
 abbrev pub invariant-loop-a : goal.invariant-loop-a
 invariant-loop-a l = (l.a ≤ l.learners) × (all (λ x. all (λ b. all (λ c. condensed_at (held_graph l.acceptors l.learners l.counts l.masks) x b c) (below l.learners)) (below l.learners)) (below l.learners) ≡ all (λ x. all (λ b. all (λ c. condensed_at (held_graph l.acceptors l.learners l.counts l.masks) x b c) (below l.learners)) (below l.learners)) (below l.a))
 

@@ -5,9 +5,7 @@ use Rattle.graph.specs.Memory.{held_graph}
 use Rattle.graph.specs.LearnerGraph.{valid_at}
 use Rattle.graph.proofs.valid.is_valid.Given as goal
 
--- lemmas
 -- The invariant: the learners that are left decide.
--- needs
 abbrev pub invariant-loop-a : goal.invariant-loop-a
 invariant-loop-a l = (l.a ≤ l.learners) × (all (λ x. all (λ b. valid_at (held_graph l.acceptors l.learners l.counts l.masks) x b) (below l.learners)) (below l.learners) ≡ all (λ x. all (λ b. valid_at (held_graph l.acceptors l.learners l.counts l.masks) x b) (below l.learners)) (below l.a))
 

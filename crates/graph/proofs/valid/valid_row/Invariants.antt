@@ -5,9 +5,7 @@ use Rattle.graph.specs.Memory.{held_graph}
 use Rattle.graph.specs.LearnerGraph.{valid_at}
 use Rattle.graph.proofs.valid.valid_row.Given as goal
 
--- lemmas
 -- The invariant: the learners that are left decide.
--- needs
 abbrev pub invariant-loop-b : goal.invariant-loop-b
 invariant-loop-b l = (l.b ≤ l.learners) × (all (λ b. valid_at (held_graph l.acceptors l.learners l.counts l.masks) l.a b) (below l.learners) ≡ all (λ b. valid_at (held_graph l.acceptors l.learners l.counts l.masks) l.a b) (below l.b))
 

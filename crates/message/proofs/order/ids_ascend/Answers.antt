@@ -9,7 +9,6 @@ use Rattle.message.specs.Order.{before, ascending}
 use native.Mathlib.Omega.{arith}
 use Rattle.message.proofs.order.ids_ascend.Goals as goal
 
--- lemmas
 -- one pair compared
 step : (s : List ℕ) (at left : ℕ) → 0 < left → ascending left s at ≡ pick (before (part id_len s at) (part id_len s (at + id_len))) (ascending (left - 1) s (at + id_len)) false
 unfolding ascending

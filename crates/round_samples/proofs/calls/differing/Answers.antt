@@ -22,14 +22,14 @@ loop-i-preserved c =
     let d = l.invariant.1.1 in
     let next = one_more l.i b r in
     elim c.if-buffer-i.branch [
-      then-buffer-i w ↦
-    let n : c.if-buffer-i.n ≡ l.n + 1 = w.n-is in
-    let p : eqb (get_or b l.i 0) (left_by r l.i) ≡ false = ne_eqb (get_or b l.i 0) (left_by r l.i) (λ e. w.if-buffer-i.true (e ∙ sym same)) in
-    (omega arith, (omega arith, n ∙ ap (λ (k : ℕ). k + 1) d ∙ sym (next ∙ ap (λ (t : Bool). differing_in l.i b r + pick t 0 1) p)))
+      | then-buffer-i w ↦
+          let n : c.if-buffer-i.n ≡ l.n + 1 = w.n-is in
+          let p : eqb (get_or b l.i 0) (left_by r l.i) ≡ false = ne_eqb (get_or b l.i 0) (left_by r l.i) (λ e. w.if-buffer-i.true (e ∙ sym same)) in
+          (omega arith, (omega arith, n ∙ ap (λ (k : ℕ). k + 1) d ∙ sym (next ∙ ap (λ (t : Bool). differing_in l.i b r + pick t 0 1) p)))
       | else-buffer-i w ↦
-    let n : c.if-buffer-i.n ≡ l.n = w.n-is in
-    let p : eqb (get_or b l.i 0) (left_by r l.i) ≡ true = eq-eqb (get_or b l.i 0) (left_by r l.i) (w.if-buffer-i.false ∙ same) in
-    (omega arith, (omega arith, n ∙ d ∙ sym (next ∙ ap (λ (t : Bool). differing_in l.i b r + pick t 0 1) p ∙ add-zero (differing_in l.i b r))))
+          let n : c.if-buffer-i.n ≡ l.n = w.n-is in
+          let p : eqb (get_or b l.i 0) (left_by r l.i) ≡ true = eq-eqb (get_or b l.i 0) (left_by r l.i) (w.if-buffer-i.false ∙ same) in
+          (omega arith, (omega arith, n ∙ d ∙ sym (next ∙ ap (λ (t : Bool). differing_in l.i b r + pick t 0 1) p ∙ add-zero (differing_in l.i b r))))
     ]
 
 pub returns : goal.returns
