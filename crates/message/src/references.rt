@@ -1,7 +1,7 @@
 // The references of a message that was read: a struct that lends the message's bytes and knows how many ids end them.
 //
-// Functions over a struct that holds a slice are proved by hand, step by step, so each is thin: it takes the struct
-// apart and calls a function on the slice and the number. Callers with plain slices go through `nth_of`.
+// Each function over the struct is thin: it takes the struct apart and calls a function on the slice and the number.
+// Callers with plain slices go through `nth_of`.
 ghost use Rattle.std.specs.Prelude.{◌≡◌};
 ghost use Rattle.message.specs.Reader.{nth_of};
 
