@@ -4,6 +4,7 @@ use Rattle.base.proofs.Bytes.{more}
 use Rattle.digest.specs.Sha256.{joined}
 use Rattle.digest.proofs.bytes_of.Goals as goal
 
+-- Each word is put behind those so far; after eight nothing of the zeros is left.
 pub returns : goal.returns
 unfolding joined bytes
 returns c =

@@ -4,6 +4,7 @@ use Rattle.digest.specs.Sha256.{compressed, hash}
 use Rattle.digest.proofs.LastBlocks as laws
 use Rattle.digest.proofs.hash_value.Goals as goal
 
+-- The last blocks, of which there are one or two, are the padded message's last ones.
 pub returns-then-last_size-eq64 : goal.returns-then-last_size-eq64
 unfolding hash
 returns-then-last_size-eq64 c =

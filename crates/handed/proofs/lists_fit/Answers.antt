@@ -10,7 +10,6 @@ use Rattle.graph.proofs.Memory.{triangle_half}
 use Rattle.base.proofs.Tests.{all_below_fails, all_below_more}
 use Rattle.handed.proofs.lists_fit.Goals as goal
 
--- The invariant: each list below k fits.
 small : (l : ℕ) → l ≤ max_learners → l * (l + 1) ≤ max_learners * (max_learners + 1)
 small l h = let e : l * (l + 1) ≤ max_learners * (l + 1) = mul-le-mul_right (l + 1) h in omega arith
 

@@ -8,7 +8,6 @@ use Rattle.base.proofs.Bytes.{put_at_more, put_at_none}
 use Rattle.base.proofs.Cuts.{put_one}
 use Rattle.roundbytes.proofs.put_zeros.Goals as goal
 
--- The invariant: zeros stand from `at` on, up to i.
 -- one zero more
 one_more : (b l : List ℕ) (at i : ℕ) → at ≤ i → suc i ≤ length b → length l ≡ length b → l ≡ put_at b at (replicate (i - at) 0) → set l i 0 ≡ put_at b at (replicate (i + 1 - at) 0)
 one_more b l at i h k n e =

@@ -16,7 +16,6 @@ use Rattle.round.specs.Holdings.{lowest}
 use Rattle.admission.proofs.lookup.place_at.Goals as goal
 use Rattle.admission.proofs.lookup.place_at.Goals.{else-read64-first-via-then-read64-first+else-same_rest, else-read64-first-via-else-read64-first}
 
--- The invariant: no place below p has the id.
 -- an id of the round is compared where it stands
 same_here : (s : List ℕ) (p : ℕ) (i : Id) → round_len ≤ length s → p < max_held → has_id (round_in s) i p ≡ same_id (part id_len s (ids_at + id_len * p)) i
 same_here s p i n h = ap (λ (x : Id). same_id x i) (sym (id_at_lem s p n h))

@@ -21,7 +21,6 @@ use Rattle.admission.specs.Inside.Finding.{places_of, place_found}
 use Rattle.round.specs.Holdings.{place_of, is_known}
 use Rattle.admission.proofs.rows.resolve.Goals as goal
 
--- The invariant: all ids are known if those left after i are, and the places of the first i are in the array.
 -- one that is not known
 lacking : (f : List ℕ → Bool) (b : List ℕ) (at n i : ℕ) → i < n → all f (ids_from n b at) ≡ all f (ids_from (n - i) b (at + id_len * i)) → f (part id_len b (at + id_len * i)) ≡ false → all f (ids_from n b at) ≡ false
 unfolding all

@@ -9,6 +9,7 @@ use Rattle.roundbytes.specs.Layout.{round_in}
 use Rattle.admission.specs.Inside.Finding.{places_of}
 use Rattle.admission.proofs.rows.resolve.Given as goal
 
+-- The invariant: all ids are known if those left after i are, and the places of the first i are in the array.
 abbrev pub invariant-loop-i : goal.invariant-loop-i
 invariant-loop-i l =
     (l.i ≤ l.count)

@@ -11,6 +11,7 @@ overflow_sub-size c = let e = laws.last_length c.args.message.now in let f = c.l
 pub put64-requires : goal.put64-requires
 put64-requires c = let e = laws.last_length c.args.message.now in let f = c.last_size-size.ensures in omega arith
 
+-- The buffer of zeros is written three times: the rest of the message, the byte 128, the length. What stands between them is the padding's zeros.
 pub returns : goal.returns
 unfolding bytes padding
 returns c =
