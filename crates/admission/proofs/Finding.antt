@@ -20,8 +20,7 @@ use Rattle.round.specs.Round.{Round}
 use Rattle.round.specs.Holdings.{id_at, lowest, place_of}
 use Rattle.round.specs.Rows.{or_zero, ids_from}
 use Rattle.round.proofs.Named.{place_some}
-use Rattle.admission.specs.declared.lookup.Found.{Found}
-use Rattle.admission.specs.declared.lookup.Found.TheVariants.{At}
+use Rattle.std.proofs.Common.{Option, Some}
 use Rattle.admission.specs.Inside.Finding.{place_found, Inside, places_of}
 
 -- ---- two ids, by the numbers that their bytes are
@@ -103,8 +102,8 @@ module _ (r : Round) (i : Id) where
   place_lowest = refl
 
   -- a place that was found for the id
-  module _ (f : Found) (e : place_found f ≡ place_of r i) where
-    pub found_at : (p : ℕ) → f ≡ At p → place_of r i ≡ some p
+  module _ (f : Option ℕ) (e : place_found f ≡ place_of r i) where
+    pub found_at : (p : ℕ) → f ≡ Some p → place_of r i ≡ some p
     found_at p h = sym e ∙ ap place_found h
 
     pub found_inside : Inside r f

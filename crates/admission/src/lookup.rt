@@ -9,31 +9,20 @@ ghost use Rattle.round.specs.Delivery.{previous_place};
 ghost use Rattle.roundbytes.specs.Layout.{round_in};
 ghost use Rattle.admission.specs.Inside.Finding.{Bounded, place_found};
 
-use base::{read64, size};
+use base::read64;
 use message::layout::ID_LEN;
 use round::NO_PLACE;
 use roundbytes::IDS_AT;
 use roundbytes::readers::held_of;
-
-// The place that an id names, or nothing.
-#[derive(Clone, Copy)]
-pub enum Found {
-    At(usize),
-    Nothing,
-}
 
 // Whether two ids whose first words are equal are the same: the other three words.
 fn same_rest<'a>(a: &'a [u8], i: usize, b: &'a [u8], j: usize) -> bool
     requires { (i + id_len ≤ length a.now) × ((j + id_len ≤ length b.now) × (be 8 a.now i ≡ be 8 b.now j)) }
     ensures { result ≡ same_id (part id_len a.now i) (part id_len b.now j) }
 {
-    if read64(a, i + 8) != read64(b, j + 8) {
-        return false;
-    }
-    if read64(a, i + 16) != read64(b, j + 16) {
-        return false;
-    }
-    read64(a, i + 24) == read64(b, j + 24)
+    read64(a, i + 8) == read64(b, j + 8)
+        && read64(a, i + 16) == read64(b, j + 16)
+        && read64(a, i + 24) == read64(b, j + 24)
 }
 
 // Whether the id in a from i on is the one in b from j on. Ids are digests, so two that differ mostly do so in the first
@@ -42,33 +31,28 @@ pub fn same_id<'a>(a: &'a [u8], i: usize, b: &'a [u8], j: usize) -> bool
     requires { (i + id_len ≤ length a.now) × (j + id_len ≤ length b.now) }
     ensures { result ≡ same_id (part id_len a.now i) (part id_len b.now j) }
 {
-    if read64(a, i) != read64(b, j) {
-        return false;
-    }
-    same_rest(a, i, b, j)
+    read64(a, i) == read64(b, j) && same_rest(a, i, b, j)
 }
 
-// The place that the id in `bytes` from `at` on names: the lowest that has it. Its first word is read once, and each place
+// The place that the id in `bytes` from `at` on names: the lowest that has it, or none. Its first word is read once, and each place
 // is asked for that word first.
-pub fn place_at<'a>(s: &'a [u8], bytes: &'a [u8], at: usize) -> Found
+pub fn place_at<'a>(s: &'a [u8], bytes: &'a [u8], at: usize) -> Option<usize>
     requires { Bounded s.now × (at + id_len ≤ length bytes.now) }
     ensures { place_found result ≡ place_of (round_in s.now) (part id_len bytes.now at) }
 {
     let held = held_of(s);
     let first = read64(bytes, at);
-    let mut p: usize = 0;
-    while p < held {
+    for p in 0..held {
         let here = IDS_AT + ID_LEN * p;
         if read64(s, here) == first && same_rest(s, here, bytes, at) {
-            return Found::At(p);
+            return Some(p);
         }
-        p += 1;
     }
-    Found::Nothing
+    None
 }
 
-// The place that an id names.
-pub fn place_of<'a>(s: &'a [u8], id: &'a [u8]) -> Found
+// The place that an id names, or none.
+pub fn place_of<'a>(s: &'a [u8], id: &'a [u8]) -> Option<usize>
     requires { Bounded s.now × (length id.now ≡ id_len) }
     ensures { place_found result ≡ place_of (round_in s.now) id.now }
 {
@@ -83,8 +67,5 @@ pub fn named_place(s: &[u8], place: u8) -> u8
     if place == NO_PLACE {
         return NO_PLACE;
     }
-    let Found::At(p) = place_at(s, s, IDS_AT + ID_LEN * size(place)) else {
-        return 0;
-    };
-    p as u8
+    place_at(s, s, IDS_AT + ID_LEN * usize::from(place)).unwrap_or(0) as u8
 }

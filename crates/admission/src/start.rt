@@ -1,8 +1,7 @@
 // An opening, after its graph file was accepted.
-ghost use Rattle.std.specs.Prelude.{◌≡◌, true, ◌≤◌, length};
+ghost use Rattle.std.specs.Prelude.{◌≡◌, true, ◌≤◌, length, Ok, Err};
 ghost use Rattle.base.specs.Tests.{pick};
 ghost use Rattle.base.specs.declared.refusal.Refusal.TheVariants.{Argument};
-ghost use Rattle.round.specs.declared.Opening.TheVariants as opening;
 ghost use Rattle.round.specs.Limits.{no_place, listening, own_allowed};
 ghost use Rattle.round.specs.Opening.{empty_round};
 ghost use Rattle.roundbytes.specs.Layout.{round_len};
@@ -10,7 +9,6 @@ ghost use Rattle.roundbytes.specs.Opening.{opened_to};
 
 use base::refusal::Refusal;
 use graph::Graph;
-use round::Opening;
 use roundbytes::put_empty;
 
 // Stands for no acceptor number.
@@ -29,14 +27,14 @@ pub fn own_fits(own: u32, acceptors: u8) -> bool
 
 // Puts the opened round, which holds no message, to the front of a buffer. An acceptor number that the graph lacks is refused, and then no
 // byte is written.
-pub fn start(graph: Graph, house: u16, bay: u16, own: u32, s: &mut [u8]) -> Opening
+pub fn start(graph: Graph, house: u16, bay: u16, own: u32, s: &mut [u8]) -> Result<(), Refusal>
     requires { round_len ≤ length s.old }
-    ensures answer { result ≡ pick (own_allowed own graph.acceptors) opening.Opened (opening.Refused Argument) }
+    ensures answer { result ≡ pick (own_allowed own graph.acceptors) (Ok tt) (Err Argument) }
     ensures bytes { s.new ≡ opened_to result (empty_round graph house bay own no_place) s.old }
 {
     if !own_fits(own, graph.acceptors) {
-        return Opening::Refused(Refusal::Argument);
+        return Err(Refusal::Argument);
     }
     put_empty(graph, house, bay, own as u16, s);
-    Opening::Opened
+    Ok(())
 }

@@ -66,6 +66,12 @@ unfolding bytes
 bytes_length zero x = refl
 bytes_length (suc n) x = length-append (bytes n (x / 256)) (x % 256 ∷ []) ∙ omega (arith, bytes_length n (x / 256))
 
+-- and a number of n bytes is below 256 ^ n
+pub be_below : (n : ℕ) (s : List ℕ) (at : ℕ) → Octets s → be n s at < 256 ^ n
+unfolding be
+be_below zero s at o = omega arith
+be_below (suc n) s at o = let h = be_below n s at o in let e = pow-suc 256 n in omega (arith, o (at + n))
+
 -- a number is read behind what stands in front of it
 pub be_at : (n : ℕ) (p q : List ℕ) (at : ℕ) → length p ≡ at → be n (p ++ q) at ≡ be n q 0
 unfolding be

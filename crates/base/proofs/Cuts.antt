@@ -6,6 +6,7 @@ use native.Mathlib.Nat.{add_assoc}
 use native.Mathlib.Omega.{arith}
 use lib.ListN.{length, get_or, take, drop, set, length-append, length-take, length-drop, take-append-drop}
 use lib.Seq.{drop_at, take-add, take-take, drop-drop, take-append-add, take-append-le, drop-append-add, drop-append-le, length-take-le, get_or-take, get_or-drop, set_split, append_snoc}
+use Rattle.std.proofs.lemmas.List.{drop-take}
 use Rattle.base.specs.Bytes.{part, put_at}
 use Rattle.base.proofs.Bytes.{part_length}
 
@@ -26,8 +27,6 @@ pub length_put : (l v : List ℕ) (at : ℕ) → at + length v ≤ length l → 
 length_put l v at h = simp (length-append, length-take, length-drop) (omega arith)
 
 -- ---- bytes put into a list
-drop_take : (m k : ℕ) (l : List ℕ) → m ≤ length l → drop m (take (m + k) l) ≡ take k (drop m l)
-drop_take m k l h = ap (drop m) (take-add m k l) ∙ drop_at (take m l) (take k (drop m l)) m (length-take-le m l h)
 
 -- behind where they are put in
 pub drop_behind : (s v : List ℕ) (at f : ℕ) → at ≤ length s → at + length v ≤ f → drop f (put_at s at v) ≡ drop f s
@@ -58,7 +57,7 @@ take_inside l v n i h k =
     let q : length p ≡ m = length-append (take i l) v ∙ ap (λ (j : ℕ). j + length v) (length-take-le i l (omega arith)) in
     let e : n ≡ length p + (n - m) = omega arith in
     let g : n ≡ m + (n - m) = omega arith in
-    let d : drop m (take n l) ≡ take (n - m) (drop m l) = ap (λ (j : ℕ). drop m (take j l)) g ∙ drop_take m (n - m) l k in
+    let d : drop m (take n l) ≡ take (n - m) (drop m l) = ap (λ (j : ℕ). drop m (take j l)) g ∙ drop-take m (n - m) l in
     ap (λ (j : ℕ). take j (p ++ drop m l)) e ∙ take-append-add p (drop m l) (n - m)
     ∙ sym (ap₂ (λ (x y : List ℕ). x ++ v ++ y) (take-take i n l (omega arith)) d)
 
@@ -128,5 +127,5 @@ pub part_part : (m n : ℕ) (s : List ℕ) (f at : ℕ) → at + m ≤ n → f +
 part_part m n s f at h k =
     let l = drop f s in
     let e : n ≡ at + (n - at) = omega arith in
-    ap (λ (j : ℕ). part m (take j l) at) e ∙ ap (take m) (drop_take at (n - at) l (omega (arith, length-drop f s))) ∙ take-take m (n - at) (drop at l) (omega arith)
+    ap (λ (j : ℕ). part m (take j l) at) e ∙ ap (take m) (drop-take at (n - at) l) ∙ take-take m (n - at) (drop at l) (omega arith)
     ∙ ap (take m) (drop-drop at f s)

@@ -275,11 +275,3 @@ any_not_all f g (x ∷ l) h = ap₂ ◌||◌ (h x) (any_not_all f g l h) ∙ ste
     step : (a b : Bool) → (not a || not b) ≡ not (a && b)
     step true b = refl
     step false b = refl
-
--- ---- each number below n passes, as a loop that counts up makes it
-pub all_below_more : (f : ℕ → Bool) (n : ℕ) → all f (below n) ≡ true → f n ≡ true → all f (below (n + 1)) ≡ true
-unfolding all below
-all_below_more f n e g = ap (λ (k : ℕ). all f (below k)) (add-one n) ∙ λ i. g i && e i
-
-pub all_below_fails : (f : ℕ → Bool) (n i : ℕ) → i < n → f i ≡ false → all f (below n) ≡ false
-all_below_fails f n i h e = not_true (all f (below n)) (not_T (all f (below n)) (λ t. subst T e (all_out f (below_in n h) t)))

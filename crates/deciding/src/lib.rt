@@ -3,10 +3,3 @@
 #![tactic(auto)]
 
 pub mod report;
-
-// The least of some ballots, if there is one.
-#[derive(Clone, Copy)]
-pub struct Least {
-    pub found: bool,
-    pub ballot: u64,
-}

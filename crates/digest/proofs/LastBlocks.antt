@@ -1,7 +1,8 @@
 -- Laws of the padded message and of its blocks: how long the last blocks are, how a buffer of zeros is filled with them, and where each
 -- block stands in the message and in the last blocks.
-use Rattle.std.proofs.Common.{◌≡◌, ℕ, suc, ◌+◌, ◌-◌, ◌*◌, ◌/◌, ◌%◌, ◌^◌, ◌<◌, ◌≤◌, List, [], ◌∷◌, ◌++◌, length, take, drop, replicate, sym, ap, ◌∙◌, append_assoc, arith, length-append, length-drop, take_all, take-take, drop-drop, take_at, drop_at}
-use lib.ListN.{length-replicate, replicate-append-replicate}
+use Rattle.std.proofs.Common.{◌≡◌, ℕ, suc, ◌+◌, ◌-◌, ◌*◌, ◌/◌, ◌%◌, ◌^◌, ◌<◌, ◌≤◌, List, [], ◌∷◌, ◌++◌, length, take, drop, replicate, sym, ap, ◌∙◌, append_assoc, arith, length-append, length-drop, take_all, take-take, drop-drop, take_at}
+use lib.ListN.{length-replicate}
+use Rattle.std.proofs.lemmas.List.{drop-replicate, take-replicate}
 use lib.Seq.{take-append-le, drop-append-le, take-append-add}
 use Rattle.base.specs.Bytes.{bytes, put_at}
 use Rattle.digest.specs.Preprocessing.{zero_bits, padding, padded, last_blocks, block}
@@ -97,14 +98,7 @@ module _ (m : List ℕ) where
 
 -- a part of a list of equal elements
 pub part_replicate : (j k n x : ℕ) → j + k ≤ n → take k (drop j (replicate n x)) ≡ replicate k x
-part_replicate j k n x h =
-    let e : n ≡ j + (k + (n - j - k)) = omega arith in
-    let q = replicate (n - j - k) x in
-    ap (λ (i : ℕ). take k (drop j (replicate i x))) e
-    ∙ ap (λ (l : List ℕ). take k (drop j l)) (sym (replicate-append-replicate j (k + (n - j - k)) x))
-    ∙ ap (take k) (drop_at (replicate j x) (replicate (k + (n - j - k)) x) j (length-replicate j x))
-    ∙ ap (take k) (sym (replicate-append-replicate k (n - j - k) x))
-    ∙ take_at (replicate k x) q k (length-replicate k x)
+part_replicate j k n x h = ap (take k) (drop-replicate j n x) ∙ take-replicate k (n - j) x (omega arith)
 
 -- a buffer of zeros that begins with t and the byte 128, with v put in at `at` behind them
 pub filled : (t v : List ℕ) (at : ℕ) → length t < at → at + length v ≤ 128

@@ -14,10 +14,8 @@ fn block_words(block: &[u8]) -> [u32; 64]
     ensures { take 16 result ≡ words 16 block.now }
 {
     let mut w = [0u32; 64];
-    let mut t: usize = 0;
-    while t < 16 {
+    for t in 0..16 {
         w[t] = read32(block, 4 * t);
-        t += 1;
     }
     w
 }
@@ -28,12 +26,11 @@ fn schedule_of(block: &[u8]) -> [u32; 64]
     ensures { result ≡ schedule block.now }
 {
     let mut w = block_words(block);
-    let mut u: usize = 16;
-    while u < 64 {
-        let x = std::num::wrapping_add_u32(small_sigma1(w[u - 2]), w[u - 7]);
-        let y = std::num::wrapping_add_u32(x, small_sigma0(w[u - 15]));
-        w[u] = std::num::wrapping_add_u32(y, w[u - 16]);
-        u += 1;
+    for u in 16..64 {
+        w[u] = small_sigma1(w[u - 2])
+            .wrapping_add(w[u - 7])
+            .wrapping_add(small_sigma0(w[u - 15]))
+            .wrapping_add(w[u - 16]);
     }
     w
 }
@@ -42,19 +39,19 @@ fn schedule_of(block: &[u8]) -> [u32; 64]
 fn after_round(s: State, k: u32, w: u32) -> State
     ensures { result ≡ round k w s }
 {
-    let x = std::num::wrapping_add_u32(s.h, big_sigma1(s.e));
-    let y = std::num::wrapping_add_u32(x, ch(s.e, s.f, s.g));
-    let z = std::num::wrapping_add_u32(y, k);
-    let t1 = std::num::wrapping_add_u32(z, w);
-    let t2 = std::num::wrapping_add_u32(big_sigma0(s.a), maj(s.a, s.b, s.c));
-    let e = std::num::wrapping_add_u32(s.d, t1);
-    let a = std::num::wrapping_add_u32(t1, t2);
+    let t1 = s
+        .h
+        .wrapping_add(big_sigma1(s.e))
+        .wrapping_add(ch(s.e, s.f, s.g))
+        .wrapping_add(k)
+        .wrapping_add(w);
+    let t2 = big_sigma0(s.a).wrapping_add(maj(s.a, s.b, s.c));
     State {
-        a,
+        a: t1.wrapping_add(t2),
         b: s.a,
         c: s.b,
         d: s.c,
-        e,
+        e: s.d.wrapping_add(t1),
         f: s.e,
         g: s.f,
         h: s.g,
@@ -65,12 +62,9 @@ fn after_round(s: State, k: u32, w: u32) -> State
 fn after_rounds(s0: State, w: &[u32; 64]) -> State
     ensures { result ≡ rounds 64 w.now s0 }
 {
-    let constants = K;
     let mut s = s0;
-    let mut t: usize = 0;
-    while t < 64 {
-        s = after_round(s, constants[t], w[t]);
-        t += 1;
+    for (k, word) in K.iter().zip(w) {
+        s = after_round(s, *k, *word);
     }
     s
 }
@@ -79,23 +73,15 @@ fn after_rounds(s0: State, w: &[u32; 64]) -> State
 fn sum(s: State, t: State) -> State
     ensures { result ≡ added s t }
 {
-    let a = std::num::wrapping_add_u32(s.a, t.a);
-    let b = std::num::wrapping_add_u32(s.b, t.b);
-    let c = std::num::wrapping_add_u32(s.c, t.c);
-    let d = std::num::wrapping_add_u32(s.d, t.d);
-    let e = std::num::wrapping_add_u32(s.e, t.e);
-    let f = std::num::wrapping_add_u32(s.f, t.f);
-    let g = std::num::wrapping_add_u32(s.g, t.g);
-    let h = std::num::wrapping_add_u32(s.h, t.h);
     State {
-        a,
-        b,
-        c,
-        d,
-        e,
-        f,
-        g,
-        h,
+        a: s.a.wrapping_add(t.a),
+        b: s.b.wrapping_add(t.b),
+        c: s.c.wrapping_add(t.c),
+        d: s.d.wrapping_add(t.d),
+        e: s.e.wrapping_add(t.e),
+        f: s.f.wrapping_add(t.f),
+        g: s.g.wrapping_add(t.g),
+        h: s.h.wrapping_add(t.h),
     }
 }
 

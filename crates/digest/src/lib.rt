@@ -55,13 +55,9 @@ fn start() -> State
 fn after_whole_blocks(message: &[u8]) -> State
     ensures { result ≡ hash (length message.now / 64) (padded message.now) }
 {
-    let count = message.len() / 64;
     let mut value = start();
-    let mut i: usize = 0;
-    while i < count {
-        let at = 64 * i;
-        value = compress(value, &message[at..at + 64]);
-        i += 1;
+    for block in message.chunks_exact(64) {
+        value = compress(value, block);
     }
     value
 }

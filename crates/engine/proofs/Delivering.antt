@@ -6,12 +6,12 @@ use Prim.Native.Nat.{ℕ, ◌≤◌, ◌<◌}
 use lib.Dec.{ltb}
 use lib.ListN.{length}
 use borrow.Author.Tests.{lt-ltb, le-ltb}
+use Rattle.std.specs.Prelude.{Err}
 use Rattle.base.specs.Tests.{pick}
 use Rattle.base.specs.declared.refusal.Refusal.{Refusal}
 use Rattle.base.specs.declared.refusal.Refusal.TheVariants.{Argument}
 use Rattle.message.specs.Reader.{reading}
-use Rattle.message.specs.declared.Reading.{Reading}
-use Rattle.message.specs.declared.Reading.TheVariants.{Refused}
+use Rattle.round.specs.Outcomes.{Reading}
 use Rattle.protocol.specs.Ids.{Id}
 use Rattle.round.specs.Round.{Round}
 use Rattle.round.specs.Delivery.{Delivered}
@@ -45,7 +45,7 @@ module _ (H : List ℕ → Id) (r : Round) (b buffer : List ℕ) (x : Delivered)
       (subst (λ (z : Reading). Gives (taken H r b z) x buffer after) (sym q) g)
 
   -- bytes that are no message
-  pub unread : (e : Refusal) → x ≡ refusal r e → Gives (taken H r b (Refused e)) x buffer buffer
+  pub unread : (e : Refusal) → x ≡ refusal r e → Gives (taken H r b (Err e)) x buffer buffer
   unread e p = (p, front_none buffer)
 
   -- what is told of it: the outcome, the next round and the reply

@@ -5,11 +5,11 @@ use lib.ListN.{length}
 use mathlib.Core.Path.{◌≡◌, refl, subst, ap, sym, ◌∙◌}
 use native.Mathlib.Omega.{arith}
 use mathlib.Core.Option.{none, Option, some}
-use lib.Seq.{length-take-le}
 use lib.Dec.{le→leb, T, leb, lt→ltb}
 use mathlib.Core.Bool.{not, ◌&&◌}
 use mathlib.Core.List.{List}
 use mathlib.Core.Logic.{inr, inl}
+use Rattle.arrayvec.specs.ArrayVec.{array_vec_len}
 use Rattle.round.specs.Round.{Round}
 use Rattle.protocol.specs.Ids.{Id}
 use Rattle.message.specs.Layout.{id_len}
@@ -19,7 +19,7 @@ use Rattle.protocol.specs.Table.{offers, held_id, held_previous, places, offered
 use Rattle.round.proofs.Marking.{previous_fits, returned_fitting}
 use Rattle.admission.specs.declared.rows.Vote.{Vote}
 use Rattle.judging.specs.Inside.Referring.{Referring}
-use Rattle.admission.specs.Inside.Votes.{record_of, refers_to}
+use Rattle.admission.specs.Inside.Votes.{record_of}
 use Rattle.round.specs.Handed.{place_fits, fits}
 use Rattle.round.specs.Holdings.{named, is_voting, is_known, place_of}
 use Rattle.round.specs.Rows.{full, placed}
@@ -32,10 +32,11 @@ use Rattle.round.specs.Delivery.{returned, hold, entered_in, entered_at, Deliver
 use Rattle.round.proofs.Named.{place_some}
 use Rattle.round.proofs.Growing.{hold_appends, hold_same, hold_fitting}
 use Rattle.base.specs.Tests.{pick}
+use Rattle.notes.specs.declared.Notes.{Notes}
 use Rattle.derive.specs.Inside.Complete.{WorkedOut}
 use Rattle.answering.specs.Inside.Giving.{Begun, Answerable, Gives}
 use Rattle.engine.proofs.Keeping.{new_worked, worked_back}
-use Rattle.admission.specs.declared.lookup.Found.{Found}
+use Rattle.std.specs.Prelude as code
 use Rattle.roundbytes.specs.Layout.{round_in}
 use Rattle.roundbytes.proofs.Typing.{bytes_are_typed}
 use Rattle.admission.specs.Inside.Finding.{place_found}
@@ -51,12 +52,11 @@ proposal_storable r i s b e o =
 pub vote_storable : (r : Round) (i : Id) (v : Vote) → length i ≡ id_len → Octets i → Referring r v → Storable r (record_of r i v)
 unfolding held_id held_previous places offered
 vote_storable r i v e o refers =
-    let n : length (refers_to v) ≡ v.count = length-take-le v.count v.places (omega (arith, refers.most, refers.whole)) in
     record {
       id_size = e;
       id_bytes = o;
-      most = omega (arith, refers.most);
-      some' = le→leb 1 (length (refers_to v)) (omega (arith, refers.least));
+      most = refers.most;
+      some' = le→leb 1 (array_vec_len v.places) refers.least;
       earlier = refers.earlier;
       placed = subst (λ (p : ℕ). T (place_fits r p)) refers.lowest refers.placed;
       previous = ap (named r) (sym refers.lowest);
@@ -95,18 +95,18 @@ module _ (r : Round) (i : Id) (free : T (not (full r i))) where
     ready none e = ready_new e
     ready (some p) e = ready_back p e
 
-    -- the masks of the graph stay
-    pub masks_kept : (o : Option ℕ) → (entered_in r h o).graph ≡ r.graph
-    masks_kept none = sym (hold_same r typed f room_held h can 1).graph
-    masks_kept (some p) = refl
+    -- the graph stays
+    pub graph_kept : (o : Option ℕ) → (entered_in r h o).graph ≡ r.graph
+    graph_kept none = sym (hold_same r typed f room_held h can 1).graph
+    graph_kept (some p) = refl
 
     -- and so do the notes
-    pub begun : (o : Option ℕ) (w b : List ℕ) → WorkedOut r w b → Begun (entered_in r h o) r.held w b
-    begun none w b worked = let n = new_worked r typed f room_held h can (hold r h 1) r.held refl refl w b worked in record { worked = n.1.1; near = inr (n.0, n.1.0) }
-    begun (some p) w b worked = record { worked = worked_back r p w b worked; near = inl refl }
+    pub begun : (o : Option ℕ) (notes : Notes) → WorkedOut r notes → Begun (entered_in r h o) r.held notes
+    begun none notes worked = let n = new_worked r typed f room_held h can (hold r h 1) r.held refl refl notes worked in record { worked = n.1.1; near = inr (n.0, n.1.0) }
+    begun (some p) notes worked = record { worked = worked_back r p notes worked; near = inl refl }
 
 -- ---- the same over bytes: s became t, and the message is at place p
-module _ (s : List ℕ) (o : Octets s) (i : Id) (f : Found) (can : Enterable s i f) (h : Held) (store : Storable (round_in s) h) (t : List ℕ) (p : ℕ) (enters : Enters s t h f p) where
+module _ (s : List ℕ) (o : Octets s) (i : Id) (f : code.Option ℕ) (can : Enterable s i f) (h : Held) (store : Storable (round_in s) h) (t : List ℕ) (p : ℕ) (enters : Enters s t h f p) where
   abbrev r : Round
   r = round_in s
 
@@ -127,13 +127,13 @@ module _ (s : List ℕ) (o : Octets s) (i : Id) (f : Found) (can : Enterable s i
         long = long;
       }
 
-  pub masks_then : (masks : List ℕ) → masks ≡ r.graph.masks → masks ≡ (round_in t).graph.masks
-  masks_then masks e = e ∙ sym (ap (λ (q : Round). q.graph.masks) enters.round ∙ ap (λ (g : Graph). g.masks) (masks_kept r i can.free typed fitting h store (place_found f)))
+  pub graph_then : (graph : Graph) → graph ≡ r.graph → graph ≡ (round_in t).graph
+  graph_then graph e = e ∙ sym (ap (λ (q : Round). q.graph) enters.round ∙ graph_kept r i can.free typed fitting h store (place_found f))
 
-  pub begun_then : (n : ℕ) → n ≡ r.held → (w b : List ℕ) → WorkedOut r w b → Begun (round_in t) n w b
-  begun_then n e w b worked =
-      subst (λ (q : Round). Begun q n w b) (sym enters.round)
-      (subst (λ (k : ℕ). Begun (entered_in r h (place_found f)) k w b) (sym e) (begun r i can.free typed fitting h store (place_found f) w b worked))
+  pub begun_then : (n : ℕ) → n ≡ r.held → (notes : Notes) → WorkedOut r notes → Begun (round_in t) n notes
+  begun_then n e notes worked =
+      subst (λ (q : Round). Begun q n notes) (sym enters.round)
+      (subst (λ (k : ℕ). Begun (entered_in r h (place_found f)) k notes) (sym e) (begun r i can.free typed fitting h store (place_found f) notes worked))
 
   -- what follows on it is what the rules say of a message that enters
   pub entered_gives : (H : List ℕ → Id) (x : Delivered) (before after : List ℕ) → Gives (processed H (round_in t) p) x before after → Gives (entered H r h (place_of r i)) x before after

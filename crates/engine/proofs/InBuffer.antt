@@ -6,12 +6,12 @@ use native.Mathlib.Omega.{arith}
 use lib.ListN.{length, take, drop, take-append-drop}
 use lib.Seq.{length-take-le}
 use borrow.Author.Tests.{le-ltb}
+use Rattle.std.specs.Prelude.{Ok, Err, Some, None}
 use Rattle.base.specs.Bytes.{Octets}
 use Rattle.digest.specs.Sha256.{sha256}
 use Rattle.message.specs.Writer.{fronted}
 use Rattle.round.specs.Round.{Round}
-use Rattle.round.specs.declared.Outcome.{Outcome}
-use Rattle.round.specs.declared.Outcome.TheVariants as outcome
+use Rattle.round.specs.Outcomes.{Outcome}
 use Rattle.round.specs.Delivery.{delivered, replied}
 use Rattle.round.proofs.OneCall.{refused_leaves_all_lem}
 use Rattle.roundbytes.specs.Layout.{round_len, round_bytes, round_in}
@@ -39,9 +39,9 @@ module _ (before after : List ℕ) (was : Octets before) (is : Octets after) (lo
   -- after a delivery
   pub landed : (message reply : List ℕ) (o : Outcome) → o ≡ (delivered sha256 (round_in before) message reply).outcome
       → round_in after ≡ (delivered sha256 (round_in before) message reply).round → after ≡ delivered_to o (delivered sha256 (round_in before) message reply).round before
-  landed message reply outcome.Accepted e f = written (delivered sha256 (round_in before) message reply).round f
-  landed message reply (outcome.Replied n) e f = written (delivered sha256 (round_in before) message reply).round f
-  landed message reply (outcome.Refused x) e f = unwritten (f ∙ (refused_leaves_all_lem sha256 (round_in before) message reply x (sym e)).0)
+  landed message reply (Ok None) e f = written (delivered sha256 (round_in before) message reply).round f
+  landed message reply (Ok (Some n)) e f = written (delivered sha256 (round_in before) message reply).round f
+  landed message reply (Err x) e f = unwritten (f ∙ (refused_leaves_all_lem sha256 (round_in before) message reply x (sym e)).0)
 
   pub answers : (message reply reply' : List ℕ) (o : Outcome) → o ≡ (delivered sha256 (round_in before) message reply).outcome
       → round_in after ≡ (delivered sha256 (round_in before) message reply).round → reply' ≡ replied sha256 (round_in before) message reply

@@ -16,6 +16,7 @@ use Rattle.graph.specs.Memory.{view_of}
 use Rattle.protocol.specs.Table.{Table, Held}
 use Rattle.protocol.proofs.Growth.{length_tabulate}
 use Rattle.places.specs.Inside.PlaceSets.{in_set}
+use Rattle.notes.specs.declared.Notes.{Notes}
 use Rattle.notes.specs.Inside.Layout.{id_keys, WordNotes, ByteNotes, word_notes, byte_notes}
 use Rattle.notes.specs.Inside.Index.{Filed, signer_key, link_key, Marks}
 use Rattle.scan.specs.Inside.Arrays.{Named, Lowest, IdsIndexed}
@@ -78,19 +79,15 @@ module _ (r s : Round) (keeps : Keeps r s) where
       })
 
   -- the notes of r are right of its places in s
-  pub worked_kept : Fitting r → r.graph ≡ s.graph → (w b : List ℕ) → WorkedOut r w b → WorkedTo s r.held w b
-  worked_kept f g w b h =
-      let x = word_notes w in
-      let y = byte_notes b in
-      let c = h.complete in
+  pub worked_kept : Fitting r → r.graph ≡ s.graph → (notes : Notes) → WorkedOut r notes → WorkedTo s r.held notes
+  worked_kept f g notes c =
+      let x = word_notes notes.words in
+      let y = byte_notes notes.octets in
       record {
-        lent = h.lent;
-        complete = record {
-          named = names_kept y c.named;
-          known = subst (λ (G : Graph). AllNoted (view_of G) (table_to s r.held) s x y) g (known_kept f (graph_of r) x y c.known);
-          ids = ids_kept x c.ids;
-          marked = marks_kept x y c.marked;
-        };
+        named = names_kept y c.named;
+        known = subst (λ (G : Graph). AllNoted (view_of G) (table_to s r.held) s x y) g (known_kept f (graph_of r) x y c.known);
+        ids = ids_kept x c.ids;
+        marked = marks_kept x y c.marked;
       }
 
   -- and none of them names a later one as its previous one
@@ -104,27 +101,23 @@ module _ (r s : Round) (keeps : Keeps r s) where
       }
 
 -- a message that is put behind the others
-pub new_worked : (r : Round) → Typed r → Fitting r → r.held < max_held → (h : Held) → Storable r h → (s : Round) (n : ℕ) → s ≡ hold r h 1 → n ≡ r.held → (w b : List ℕ) → WorkedOut r w b
-    → (s.held ≡ suc n) × (Fit n s × WorkedTo s n w b)
-new_worked r typed f room h can s n q m w b v =
+pub new_worked : (r : Round) → Typed r → Fitting r → r.held < max_held → (h : Held) → Storable r h → (s : Round) (n : ℕ) → s ≡ hold r h 1 → n ≡ r.held → (notes : Notes) → WorkedOut r notes
+    → (s.held ≡ suc n) × (Fit n s × WorkedTo s n notes)
+new_worked r typed f room h can s n q m notes v =
     let keeps = hold_keeps r typed f room h can 1 in
     let e : (hold r h 1).held ≡ suc r.held = (hold_appends r typed f room h can 1).held ∙ add-one r.held in
-    subst (λ (t : Round). (t.held ≡ suc n) × (Fit n t × WorkedTo t n w b)) (sym q)
-    (subst (λ (k : ℕ). ((hold r h 1).held ≡ suc k) × (Fit k (hold r h 1) × WorkedTo (hold r h 1) k w b)) (sym m)
-    (e, (fit_kept r (hold r h 1) keeps (fit_of r f), worked_kept r (hold r h 1) keeps f (hold_same r typed f room h can 1).graph w b v)))
+    subst (λ (t : Round). (t.held ≡ suc n) × (Fit n t × WorkedTo t n notes)) (sym q)
+    (subst (λ (k : ℕ). ((hold r h 1).held ≡ suc k) × (Fit k (hold r h 1) × WorkedTo (hold r h 1) k notes)) (sym m)
+    (e, (fit_kept r (hold r h 1) keeps (fit_of r f), worked_kept r (hold r h 1) keeps f (hold_same r typed f room h can 1).graph notes v)))
 
 -- a message that returns changes nothing that is noted
-pub worked_back : (r : Round) (p : ℕ) (w b : List ℕ) → WorkedOut r w b → WorkedOut (returned r p) w b
-worked_back r p w b h =
-    let c = h.complete in
+pub worked_back : (r : Round) (p : ℕ) (notes : Notes) → WorkedOut r notes → WorkedOut (returned r p) notes
+worked_back r p notes c =
     let k = c.known in
     let m = c.marked in
     record {
-      lent = h.lent;
-      complete = record {
-        named = record { none = c.named.none; each = λ i l. let n = c.named.each i l in record { bound = n.bound; here = n.here; first = n.first } };
-        known = record { ordered = k.ordered; kind = k.kind; signer = k.signer; noted = k.noted };
-        ids = c.ids;
-        marked = record { by_signer = m.by_signer; by_link = m.by_link; by_ballot = m.by_ballot; by_form = m.by_form; forked = m.forked };
-      };
+      named = record { none = c.named.none; each = λ i l. let n = c.named.each i l in record { bound = n.bound; here = n.here; first = n.first } };
+      known = record { ordered = k.ordered; kind = k.kind; signer = k.signer; noted = k.noted };
+      ids = c.ids;
+      marked = record { by_signer = m.by_signer; by_link = m.by_link; by_ballot = m.by_ballot; by_form = m.by_form; forked = m.forked };
     }

@@ -6,22 +6,27 @@ ghost use Rattle.admission.specs.Inside.Votes.{record_of};
 ghost use Rattle.judging.specs.Inside.Referring.{Referring};
 ghost use Rattle.engine.specs.Inside.Entering.{Enterable, Enters};
 
-use admission::lookup::Found;
 use admission::rows::Vote;
 use holding::hold::{hold_proposal, hold_vote, returned};
 use roundbytes::readers::held_of;
 
 // A proposal.
-pub fn enter_proposal(s: &mut [u8], id: &[u8], proposer: u8, ballot: u64, found: Found) -> usize
+pub fn enter_proposal(
+    s: &mut [u8],
+    id: &[u8],
+    proposer: u8,
+    ballot: u64,
+    found: Option<usize>,
+) -> usize
     requires { Enterable s.old id.now found }
     ensures { Enters s.old s.new (offers id.now proposer ballot) found result }
 {
     match found {
-        Found::At(p) => {
+        Some(p) => {
             returned(s, p);
             p
         }
-        Found::Nothing => {
+        None => {
             let p = held_of(s);
             hold_proposal(s, id, proposer, ballot);
             p
@@ -30,16 +35,16 @@ pub fn enter_proposal(s: &mut [u8], id: &[u8], proposer: u8, ballot: u64, found:
 }
 
 // An acceptor message.
-pub fn enter_vote(s: &mut [u8], id: &[u8], vote: Vote, found: Found) -> usize
-    requires { Enterable s.old id.now found × Referring (round_in s.old) vote }
-    ensures { Enters s.old s.new (record_of (round_in s.old) id.now vote) found result }
+pub fn enter_vote(s: &mut [u8], id: &[u8], vote: &Vote, found: Option<usize>) -> usize
+    requires { Enterable s.old id.now found × Referring (round_in s.old) vote.now }
+    ensures { Enters s.old s.new (record_of (round_in s.old) id.now vote.now) found result }
 {
     match found {
-        Found::At(p) => {
+        Some(p) => {
             returned(s, p);
             p
         }
-        Found::Nothing => {
+        None => {
             let p = held_of(s);
             hold_vote(s, id, vote, 1);
             p

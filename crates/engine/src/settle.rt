@@ -11,33 +11,33 @@ ghost use Rattle.answering.specs.Inside.Giving.{Gives, left};
 ghost use Rattle.engine.specs.Inside.Entering.{Settles};
 
 use crate::enter::enter_vote;
-use admission::lookup::Found;
 use admission::rows::Vote;
 use answering::answer::process;
+use base::refusal::Refusal;
 use derive::pass::work_out;
 use judging::rows::sound_row;
-use notes::{OCTETS, WORDS};
-use order::rows::Row;
-use round::Outcome;
-use roundbytes::masks_in;
+use notes::Notes;
+use roundbytes::graph_in;
 use roundbytes::readers::held_of;
 
 // The held messages are worked out once, for the rows and for the reply.
-pub fn settle(s: &mut [u8], id: &[u8], found: Found, vote: Vote, reply: &mut [u8]) -> Outcome
-    requires { Settles s.old id.now found vote reply.old }
-    ensures given { Gives (decided_by sha256 (round_in s.old) id.now (record_of (round_in s.old) id.now vote)
-        (sound_row (round_in s.old) id.now (message_of (round_in s.old) (record_of (round_in s.old) id.now vote)))) (left result s.new) reply.old reply.new }
+pub fn settle(
+    s: &mut [u8],
+    id: &[u8],
+    found: Option<usize>,
+    vote: &Vote,
+    reply: &mut [u8],
+) -> Result<Option<usize>, Refusal>
+    requires { Settles s.old id.now found vote.now reply.old }
+    ensures given { Gives (decided_by sha256 (round_in s.old) id.now (record_of (round_in s.old) id.now vote.now)
+        (sound_row (round_in s.old) id.now (message_of (round_in s.old) (record_of (round_in s.old) id.now vote.now)))) (left result s.new) reply.old reply.new }
     ensures kept { Kept s.old s.new }
 {
-    let masks = masks_in(s);
-    let mut words = [0u64; WORDS];
-    let mut octets = [0u8; OCTETS];
-    work_out(s, &masks, &mut words, &mut octets);
-    let sound = sound_row(s, &masks, &words, &octets, id, vote, found);
-    if let Row::Applies(e) = sound {
-        return Outcome::Refused(e);
-    }
+    let graph = graph_in(s);
+    let mut notes = Notes::new();
+    work_out(s, &graph, &mut notes);
+    sound_row(s, &graph, &notes, id, vote, found)?;
     let n = held_of(s);
     let p = enter_vote(s, id, vote, found);
-    process(s, &masks, &mut words, &mut octets, n, p, reply)
+    process(s, &graph, &mut notes, n, p, reply)
 }

@@ -6,3 +6,5 @@ pub mod Memory
 pub mod Meaning
 -- Graphs that say the same are valid, and condensed, alike
 pub mod Same
+-- What a chain answers
+pub mod Chains

@@ -1,9 +1,7 @@
 // The learner graph of a site in memory: its quorums and safe sets asked about, and whether it is valid and condensed.
 #![tactic(auto)]
 
-use base::refusal::{Refusal, number};
-use condensed::is_condensed;
-use valid::is_valid;
+use base::refusal::Refusal;
 
 pub mod condensed;
 pub mod lists;
@@ -11,8 +9,8 @@ pub mod valid;
 
 ghost use Rattle.std.specs.Prelude.{◌≡◌, ◌≤◌};
 ghost use Rattle.graph.specs.Limits.{max_learners};
-ghost use Rattle.graph.specs.Answers.{graph_answer, answer_number};
-ghost use Rattle.graph.specs.Memory.{held_graph, GraphSized};
+ghost use Rattle.graph.specs.Answers.{graph_answer};
+ghost use Rattle.graph.specs.Memory.{view_of};
 
 // A set of acceptors: bit p is acceptor p.
 pub type Mask = u32;
@@ -40,38 +38,19 @@ pub struct Graph {
     pub masks: [Mask; MASK_SLOTS],
 }
 
-#[derive(Clone, Copy)]
-pub enum Answer {
-    Accepted,
-    Refused(Refusal),
-}
-
-// 0 for accepted, or the row's number.
-pub fn answer_number(a: Answer) -> u32
-    ensures { result ≡ answer_number a }
-{
-    match a {
-        Answer::Accepted => 0,
-        Answer::Refused(r) => number(r),
+impl Graph {
+    // Rows 6 and 7: `is_valid`, then `is_condensed`. All three ask for at most MAX_LEARNERS learners: whoever calls them has put the lists of a file
+    // into a graph, and has no answer to give a second test.
+    pub fn judge(&self) -> Result<(), Refusal>
+        requires { self.now.learners ≤ max_learners }
+        ensures { result ≡ graph_answer (view_of self.now) }
+    {
+        if !self.is_valid() {
+            return Err(Refusal::NotValid);
+        }
+        if !self.is_condensed() {
+            return Err(Refusal::NotCondensed);
+        }
+        Ok(())
     }
-}
-
-// Rows 6 and 7 of the lists of a graph: `valid::is_valid`, then `condensed::is_condensed`. All three ask for at most MAX_LEARNERS learners and for
-// arrays of a graph's length, as `lists` does: whoever calls them has put the lists of a file into such arrays, and has no answer to give a second test.
-pub fn graph_answer<'a>(
-    counts: &'a [u8],
-    masks: &'a [Mask],
-    acceptors: u8,
-    learners: usize,
-) -> Answer
-    requires { (learners ≤ max_learners) × GraphSized counts.now masks.now }
-    ensures { result ≡ graph_answer (held_graph acceptors learners counts.now masks.now) }
-{
-    if !is_valid(counts, masks, acceptors, learners) {
-        return Answer::Refused(Refusal::NotValid);
-    }
-    if !is_condensed(counts, masks, acceptors, learners) {
-        return Answer::Refused(Refusal::NotCondensed);
-    }
-    Answer::Accepted
 }

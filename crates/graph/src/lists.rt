@@ -1,17 +1,15 @@
 // The lists of masks of a graph. Sets are masks, joined, met and compared.
-// These serve this crate and those above it, and ask for learners and lists in range and for arrays of a graph's length: whoever calls them holds a graph
-// that was read, or a round that passed row 17, and has no answer to give a second test.
-ghost use Rattle.std.specs.Prelude.{◌≡◌, ℕ, ◌+◌, ◌-◌, ◌*◌, ◌^◌, ◌≤◌, ◌<◌, min, length, get_or};
-ghost use Rattle.std.proofs.Math.Seq.{slice};
+// These serve this crate and those above it, and ask for learners and lists in range: whoever calls them holds a graph that was read, or a round
+// that passed row 17, and has no answer to give a second test.
+ghost use Rattle.std.specs.Prelude.{◌≡◌, ◌-◌, ◌^◌, ◌≤◌, ◌<◌, min, get_or};
 ghost use Rattle.base.specs.Tests.{any};
 ghost use Rattle.base.specs.Sets.{has, contains, apart};
 ghost use Rattle.graph.specs.Limits.{lists, max_learners, max_masks, mask_bits};
 ghost use Rattle.graph.specs.LearnerGraph.{is_quorum, safe_without};
-ghost use Rattle.graph.specs.Memory.{triangle, list_of, pair_list, held_graph, GraphSized};
+ghost use Rattle.graph.specs.Memory.{triangle, list_of, pair_list, view_of};
 ghost use Rattle.graph.specs.Inside.Asking.{within};
 
-use crate::{MASK_BITS, MAX_LEARNERS, MAX_MASKS, Mask};
-use base::size;
+use crate::{Graph, MASK_BITS, MAX_LEARNERS, MAX_MASKS, Mask};
 
 // All acceptors below n. A shift by the width of a mask has no meaning, so that width is a case of its own.
 pub fn known(n: u8) -> Mask
@@ -31,66 +29,11 @@ pub fn within(mask: Mask, set: Mask) -> bool
     mask & set == mask
 }
 
-// Whether the set contains one of the masks at the places from `from` to `to`.
-pub fn some_within(masks: &[Mask], from: usize, to: usize, set: Mask) -> bool
-    requires { to ≤ length masks.now }
-    ensures { result ≡ any (within set) (slice from to masks.now) }
+// Whether the set contains one of the masks.
+pub fn some_within(list: &[Mask], set: Mask) -> bool
+    ensures { result ≡ any (within set) list.now }
 {
-    let mut i = from;
-    while i < to {
-        if within(masks[i], set) {
-            return true;
-        }
-        i += 1;
-    }
-    false
-}
-
-// How many masks list k has.
-pub fn count_of(counts: &[u8], k: usize) -> usize
-    requires { k < length counts.now }
-    ensures { (result ≡ min (get_or counts.now k 0) max_masks) × (result ≤ max_masks) }
-{
-    let n = size(counts[k]);
-    if n < MAX_MASKS { n } else { MAX_MASKS }
-}
-
-// Whether the set contains a mask of list k.
-fn holds<'a>(counts: &'a [u8], masks: &'a [Mask], k: usize, set: Mask) -> bool
-    requires { (k < lists) × GraphSized counts.now masks.now }
-    ensures { result ≡ any (within set) (list_of counts.now masks.now k) }
-{
-    let from = MAX_MASKS * k;
-    let to = from + count_of(counts, k);
-    some_within(masks, from, to, set)
-}
-
-// Whether a mask of list k has all its acceptors in the set. What is no acceptor counts as in the set.
-pub fn some_contained<'a>(
-    counts: &'a [u8],
-    masks: &'a [Mask],
-    k: usize,
-    acceptors: u8,
-    set: Mask,
-) -> bool
-    requires { (k < lists) × GraphSized counts.now masks.now }
-    ensures { result ≡ any (contains acceptors (has set)) (list_of counts.now masks.now k) }
-{
-    holds(counts, masks, k, set | !known(acceptors))
-}
-
-// Whether a mask of list k has no acceptor in the set: it lies within all that is not in the set.
-pub fn some_apart<'a>(
-    counts: &'a [u8],
-    masks: &'a [Mask],
-    k: usize,
-    acceptors: u8,
-    set: Mask,
-) -> bool
-    requires { (k < lists) × GraphSized counts.now masks.now }
-    ensures { result ≡ any (apart acceptors (has set)) (list_of counts.now masks.now k) }
-{
-    holds(counts, masks, k, !(set & known(acceptors)))
+    list.iter().any(|mask| within(*mask, set))
 }
 
 // 1 + 2 + .. + b.
@@ -113,31 +56,48 @@ pub fn pair_list(a: usize, b: usize) -> usize
     }
 }
 
-// Whether a set is a quorum of learner a.
-pub fn is_quorum<'a>(
-    counts: &'a [u8],
-    masks: &'a [Mask],
-    acceptors: u8,
-    a: usize,
-    set: Mask,
-) -> bool
-    requires { (a < max_learners) × GraphSized counts.now masks.now }
-    ensures { (l : ℕ) → result ≡ is_quorum (held_graph acceptors l counts.now masks.now) a (has set) }
-{
-    some_contained(counts, masks, a, acceptors, set)
-}
+impl Graph {
+    // The masks of list k.
+    pub fn list(&self, k: usize) -> &[Mask]
+        requires { k < lists }
+        ensures { result.now ≡ list_of self.now.counts self.now.masks k }
+    {
+        let from = MAX_MASKS * k;
+        let count = usize::from(self.counts[k]).min(MAX_MASKS);
+        &self.masks[from..from + count]
+    }
 
-// Whether a listed safe mask of the pair a-b has no acceptor of the set.
-pub fn safe_without<'a>(
-    counts: &'a [u8],
-    masks: &'a [Mask],
-    acceptors: u8,
-    a: usize,
-    b: usize,
-    set: Mask,
-) -> bool
-    requires { (a < max_learners) × ((b < max_learners) × GraphSized counts.now masks.now) }
-    ensures { (l : ℕ) → result ≡ safe_without (held_graph acceptors l counts.now masks.now) a b (has set) }
-{
-    some_apart(counts, masks, pair_list(a, b), acceptors, set)
+    // Whether a mask of list k has all its acceptors in the set. What is no acceptor counts as in the set.
+    pub fn some_contained(&self, k: usize, set: Mask) -> bool
+        requires { k < lists }
+        ensures { result ≡ any (contains self.now.acceptors (has set)) (list_of self.now.counts self.now.masks k) }
+    {
+        let masks = self.list(k);
+        some_within(masks, set | !known(self.acceptors))
+    }
+
+    // Whether a mask of list k has no acceptor in the set: it lies within all that is not in the set.
+    pub fn some_apart(&self, k: usize, set: Mask) -> bool
+        requires { k < lists }
+        ensures { result ≡ any (apart self.now.acceptors (has set)) (list_of self.now.counts self.now.masks k) }
+    {
+        let masks = self.list(k);
+        some_within(masks, !(set & known(self.acceptors)))
+    }
+
+    // Whether a set is a quorum of learner a.
+    pub fn is_quorum(&self, a: usize, set: Mask) -> bool
+        requires { a < max_learners }
+        ensures { result ≡ is_quorum (view_of self.now) a (has set) }
+    {
+        self.some_contained(a, set)
+    }
+
+    // Whether a listed safe mask of the pair a-b has no acceptor of the set.
+    pub fn safe_without(&self, a: usize, b: usize, set: Mask) -> bool
+        requires { (a < max_learners) × (b < max_learners) }
+        ensures { result ≡ safe_without (view_of self.now) a b (has set) }
+    {
+        self.some_apart(pair_list(a, b), set)
+    }
 }

@@ -9,18 +9,19 @@ use borrow.Author.Tests.{eqb-true, ltb-true, ltb-false, leb-true}
 use lib.Dec.{T, eqb, ltb, leb}
 use lib.ListN.{length, get_or, drop, length-drop, take-append-drop}
 use lib.Seq.{drop-cons, drop-drop, ext_get_or, drop-length}
+use Rattle.std.proofs.Common.{Ok, Err}
+use Rattle.std.specs.Result.{result_and}
 use Rattle.base.specs.Tests.{◌∈◌, pick}
 use Rattle.base.specs.Bytes.{be, bytes, Octets}
 use Rattle.base.proofs.Bytes.{bytes_be}
 use Rattle.base.specs.declared.refusal.Refusal.{Refusal}
 use Rattle.base.specs.declared.refusal.Refusal.TheVariants.{Length, Version, Range, NotValid, NotCondensed}
-use Rattle.graph.specs.declared.Answer.TheVariants.{Accepted, Refused}
 use Rattle.graph.specs.declared.Graph.{Graph}
 use Rattle.graph.specs.Limits.{max_learners, max_acceptors, mask_bytes}
 use Rattle.graph.specs.LearnerGraph.{LearnerGraph, valid, condensed}
-use Rattle.graphfile.specs.File.{outer_len, version_at, acceptors_at, learners_at, lists_at, Got, got, no, mask_answer, read_version, read_count, read_masks, read_list, read_lists, read_rows, Contents, read_graph, contents, graph_said, answer_of, contents_answer}
+use Rattle.graphfile.specs.File.{outer_len, version_at, acceptors_at, learners_at, lists_at, Got, got, no, mask_answer, read_version, read_count, read_masks, read_list, read_lists, read_rows, Contents, read_graph, contents, graph_said}
 use Rattle.graph.specs.Memory.{view_of, pair_list, triangle, list_of}
-use Rattle.graphfile.specs.Arrays.{held_of, graph_of_held, graph_reading, contents_reading, reading_of}
+use Rattle.graphfile.specs.Arrays.{graph_in_file, contents_reading, reading_of}
 use Rattle.graph.specs.Theorems.{SameGraph, Undirected}
 use Rattle.graphfile.specs.Writer.{masks_bytes, list_bytes, lists_bytes, rows_bytes, body_bytes, file_bytes}
 use Rattle.graphfile.specs.Theorems.{HeldSaysTheSame, AcceptedIsSound, FilesDiffer, FileWrittenBack}
@@ -109,43 +110,35 @@ file_got s f end e =
     }
 
 -- what acceptance says
-pub record Passed (s : List ℕ) : Type 0 where
+pub record Passed (s : List ℕ) (g : Graph) : Type 0 where
   pub file : Contents
   pub end : ℕ
   pub is : contents s ≡ got file end
   pub is_valid : valid (graph_said file) ≡ true
   pub is_condensed : condensed (graph_said file) ≡ true
-  pub held : (reading_of s).graph ≡ graph_of_held file.acceptors file.learners (held_of file)
+  pub held : graph_in_file file ≡ g
 
-pub passed : (s : List ℕ) → answer_of s ≡ Accepted → Passed s
-passed s e = by (contents s) refl e
+pub passed : (s : List ℕ) (g : Graph) → reading_of s ≡ Ok g → Passed s g
+passed s g e = by (contents s) refl e
   where
     checks : (f : Contents) (end : ℕ) → contents s ≡ got f end → (v c : Bool) → valid (graph_said f) ≡ v → condensed (graph_said f) ≡ c
-        → pick v (pick c Accepted (Refused NotCondensed)) (Refused NotValid) ≡ Accepted → Passed s
-    checks f end g true true p q e =
-        record {
-          file = f;
-          end = end;
-          is = g;
-          is_valid = p;
-          is_condensed = q;
-          held = ap (λ (x : Got Contents). (contents_reading x).graph) g ∙ ap₂ (λ (x y : Bool). (graph_reading f (pick x (pick y Accepted (Refused NotCondensed)) (Refused NotValid))).graph) p q;
-        }
-    checks f end g true false p q e = let z : ◌≡◌ {A = ℕ} 0 1 = cc in absurd (omega arith)
-    checks f end g false c p q e = let z : ◌≡◌ {A = ℕ} 0 1 = cc in absurd (omega arith)
+        → result_and (pick v (pick c (Ok (tt {0})) (Err NotCondensed)) (Err NotValid)) (Ok (graph_in_file f)) ≡ Ok g → Passed s g
+    checks f end h true true p q e = record { file = f; end = end; is = h; is_valid = p; is_condensed = q; held = cc }
+    checks f end h true false p q e = let z : ◌≡◌ {A = ℕ} 0 1 = cc in absurd (omega arith)
+    checks f end h false c p q e = let z : ◌≡◌ {A = ℕ} 0 1 = cc in absurd (omega arith)
 
-    by : (g : Got Contents) → contents s ≡ g → contents_answer g ≡ Accepted → Passed s
-    by (got f end) g e = checks f end g (valid (graph_said f)) (condensed (graph_said f)) refl refl e
-    by (no r) g e = let z : ◌≡◌ {A = ℕ} 0 1 = cc in absurd (omega arith)
+    by : (x : Got Contents) → contents s ≡ x → contents_reading x ≡ Ok g → Passed s g
+    by (got f end) h e = checks f end h (valid (graph_said f)) (condensed (graph_said f)) refl refl e
+    by (no r) h e = let z : ◌≡◌ {A = ℕ} 0 1 = cc in absurd (omega arith)
 
-held_file : (s : List ℕ) (P : Passed s) → SameGraph (view_of (reading_of s).graph) (graph_said P.file)
-held_file s P =
+held_file : (s : List ℕ) (g : Graph) (P : Passed s g) → SameGraph (view_of g) (graph_said P.file)
+held_file s g P =
     let F = file_got s P.file P.end P.is in
-    subst (λ (g : Graph). SameGraph (view_of g) (graph_said P.file)) (sym P.held)
+    subst (λ (g : Graph). SameGraph (view_of g) (graph_said P.file)) P.held
     (held_same P.file.acceptors P.file.learners P.file F.few (graph_got s P.file.acceptors P.file.learners 5 P.file (length s) F.long F.lists))
 
 pub held_says_the_same : HeldSaysTheSame
-held_says_the_same s e = let P = passed s e in (P.file, P.end, P.is, held_file s P)
+held_says_the_same s g e = let P = passed s g e in (P.file, P.end, P.is, held_file s g P)
 
 pair_round : (a b : ℕ) → pair_list a b ≡ pair_list b a
 unfolding pair_list
@@ -161,13 +154,13 @@ pub undirected_symmetric : (G : LearnerGraph) → Undirected G → Symmetric G
 undirected_symmetric G u a b s m = subst (λ (l : List ℕ). s ∈ l) (u a b) m
 
 pub accepted_is_sound : AcceptedIsSound
-accepted_is_sound s e =
-    let P = passed s e in
-    let S = held_file s P in
+accepted_is_sound s g e =
+    let P = passed s g e in
+    let S = held_file s g P in
     record {
-      undirected = view_undirected (reading_of s).graph;
-      is_valid = subst T (sym (valid_same (view_of (reading_of s).graph) (graph_said P.file) S ∙ P.is_valid)) tt;
-      is_condensed = subst T (sym (condensed_same (view_of (reading_of s).graph) (graph_said P.file) S ∙ P.is_condensed)) tt;
+      undirected = view_undirected g;
+      is_valid = subst T (sym (valid_same (view_of g) (graph_said P.file) S ∙ P.is_valid)) tt;
+      is_condensed = subst T (sym (condensed_same (view_of g) (graph_said P.file) S ∙ P.is_condensed)) tt;
     }
 
 -- ---- the bytes of a file follow from what it says
@@ -297,17 +290,17 @@ same_trans G H K L p q r =
 
 pub files_differ : FilesDiffer
 unfolding graph_said
-files_differ s t bs bt es et same =
-    let P = passed s es in
-    let Q = passed t et in
+files_differ s t bs bt g h es et same =
+    let P = passed s g es in
+    let Q = passed t h et in
     let f = P.file in
-    let g = Q.file in
+    let k = Q.file in
     let F = file_got s f P.end P.is in
-    let G = file_got t g Q.end Q.is in
-    let S = same_trans (view_of (reading_of s).graph) (graph_said f) (view_of (reading_of t).graph) (graph_said g) (held_file s P) (held_file t Q) same in
-    let ea : f.acceptors ≡ g.acceptors = S.acceptors in
-    let el : f.learners ≡ g.learners = S.learners in
-    let (eq, er) = contents_ext f.learners f g (graph_got s f.acceptors f.learners 5 f (length s) F.long F.lists)
-    (subst (λ (l : ℕ). GraphGot g.acceptors l g) (sym el) (graph_got t g.acceptors g.learners 5 g (length t) G.long G.lists)) S
+    let K = file_got t k Q.end Q.is in
+    let S = same_trans (view_of g) (graph_said f) (view_of h) (graph_said k) (held_file s g P) (held_file t h Q) same in
+    let ea : f.acceptors ≡ k.acceptors = S.acceptors in
+    let el : f.learners ≡ k.learners = S.learners in
+    let (eq, er) = contents_ext f.learners f k (graph_got s f.acceptors f.learners 5 f (length s) F.long F.lists)
+    (subst (λ (l : ℕ). GraphGot k.acceptors l k) (sym el) (graph_got t k.acceptors k.learners 5 k (length t) K.long K.lists)) S
     in
-    file_bytes_lem s bs f F ∙ (λ i. file_bytes (record { acceptors = ea i; learners = el i; quorums = eq i; rows = er i })) ∙ sym (file_bytes_lem t bt g G)
+    file_bytes_lem s bs f F ∙ (λ i. file_bytes (record { acceptors = ea i; learners = el i; quorums = eq i; rows = er i })) ∙ sym (file_bytes_lem t bt k K)

@@ -14,10 +14,11 @@ use Rattle.base.specs.Sets.{has, contains}
 use Rattle.base.specs.Bytes.{be}
 use Rattle.base.proofs.Tests.{eq→eqb}
 use Rattle.base.proofs.Bits.{some_bit}
+use Rattle.std.proofs.Common.{Ok, Err}
+use Rattle.graph.specs.declared.Graph.{Graph}
 use Rattle.base.specs.declared.refusal.Refusal.TheVariants.{Length, Order, Mask}
-use Rattle.graph.specs.declared.Answer.TheVariants.{Accepted, Refused}
 use Rattle.graph.specs.Limits.{max_masks}
-use Rattle.graphfile.specs.File.{got, no, last, mask_answer, read_count, read_masks, read_list, read_lists, read_rows, read_graph, Contents, graph_said, answer_of}
+use Rattle.graphfile.specs.File.{got, no, last, mask_answer, read_count, read_masks, read_list, read_lists, read_rows, read_graph, Contents, graph_said}
 use Rattle.graph.specs.Memory.{view_of}
 use Rattle.graphfile.specs.Arrays.{reading_of}
 use Rattle.graphfile.proofs.Reader.{pick_got, check_got, then_got}
@@ -30,11 +31,11 @@ Names n q = (p : ℕ) × (p < n) × T (has q p)
 abbrev AllName : ℕ → List ℕ → Type 0
 AllName n l = (q : ℕ) → q ∈ l → Names n q
 
-pub passed_mask : (n : ℕ) (e : List ℕ) (m : ℕ) → mask_answer n e m ≡ Accepted → (m ≡ 0 → ⊥) × (m < 2 ^ n)
+pub passed_mask : (n : ℕ) (e : List ℕ) (m : ℕ) → mask_answer n e m ≡ Ok tt → (m ≡ 0 → ⊥) × (m < 2 ^ n)
 passed_mask n e m h = by (eqb m 0) (leb (2 ^ n) m) refl refl h
   where
     by : (z u : Bool) → eqb m 0 ≡ z → leb (2 ^ n) m ≡ u
-        → pick (z || u) (Refused Mask) (pick (leb m (last 0 e)) (Refused Order) (pick (any (contains n (has m)) e) (Refused Mask) Accepted)) ≡ Accepted
+        → pick (z || u) (Err Mask) (pick (leb m (last 0 e)) (Err Order) (pick (any (contains n (has m)) e) (Err Mask) (Ok (tt {0})))) ≡ Ok tt
         → (m ≡ 0 → ⊥) × (m < 2 ^ n)
     by true u p q h = let z : ◌≡◌ {A = ℕ} 0 1 = cc in absurd (omega arith)
     by false true p q h = let z : ◌≡◌ {A = ℕ} 0 1 = cc in absurd (omega arith)
@@ -105,11 +106,10 @@ listed P [] a z h = z
 listed P (l ∷ ls) zero z h = h l (Memᴰ.head refl)
 listed P (l ∷ ls) (suc a) z h = listed P ls a z (λ k m. h k (Memᴰ.tail m))
 
-pub accepted_peopled : (s : List ℕ) → answer_of s ≡ Accepted → (a q : ℕ) → a < (view_of (reading_of s).graph).learners → q ∈ (view_of (reading_of s).graph).quorums a
-    → Names (view_of (reading_of s).graph).acceptors q
+pub accepted_peopled : (s : List ℕ) (g : Graph) → reading_of s ≡ Ok g → (a q : ℕ) → a < (view_of g).learners → q ∈ (view_of g).quorums a → Names (view_of g).acceptors q
 unfolding graph_said
-accepted_peopled s e a q l m =
-    let (f, end, c, same) = held_says_the_same s e in
+accepted_peopled s g e a q l m =
+    let (f, end, c, same) = held_says_the_same s g e in
     let F = file_got s f end c in
     let all : (k : List ℕ) → k ∈ f.quorums → AllName f.acceptors k = quorums_name s f.acceptors f.learners 5 f (length s) F.lists in
     let here : q ∈ get_or f.quorums a [] = subst (λ (k : List ℕ). q ∈ k) (same.quorums a l) m in

@@ -6,29 +6,20 @@ use Prim.Native.Nat.{ℕ, zero, suc, ◌+◌, ◌-◌, ◌*◌, ◌^◌, ◌≤�
 use native.Mathlib.Numerals.{add-one}
 use native.Mathlib.Nat.{add-zero}
 use native.Mathlib.Omega.{arith}
-use borrow.Author.Tests.{ltb-true}
+use borrow.Author.Tests.{ltb-true, leb-true}
+use lib.Dec.{leb}
 use lib.ListN.{length, get_or, take, drop, length-append, length-drop, length-take, drop_of_length-le}
-use lib.Seq.{slice, slice-cons, slice_empty, length-slice, drop-cons, take_at, drop_at, length-take-le}
+use lib.Seq.{get_or-drop, drop-cons, drop_at, length-take-le}
 use Rattle.base.specs.Tests.{all}
 use Rattle.base.specs.Bytes.{bytes, put_at}
 use Rattle.base.proofs.Bytes.{bytes_length, put_at_none, put_at_more}
+use Rattle.graph.specs.declared.Graph.{Graph}
 use Rattle.graph.specs.Limits.{version, max_learners, max_masks, mask_bytes, lists}
-use Rattle.graph.specs.Memory.{held_graph, list_of, pair_list, triangle, GraphSized}
-use Rattle.graph.proofs.Memory.{list_is}
+use Rattle.graph.specs.Memory.{held_graph, list_of, pair_list, triangle}
 use Rattle.graphfile.specs.File.{outer_len, version_at, acceptors_at, learners_at, lists_at, Contents}
-use Rattle.graphfile.specs.Writer.{masks_bytes, list_bytes, lists_bytes, rows_bytes, body_bytes, file_bytes, listed, rows_from, contents_of, fits_mask}
-use Rattle.graphfile.specs.Inside.Steps.{MasksFit, PutIn}
+use Rattle.graphfile.specs.Writer.{masks_bytes, list_bytes, lists_bytes, rows_bytes, body_bytes, file_bytes, listed, rows_from, contents_of, few_masks, fits_mask, sayable}
+use Rattle.graphfile.specs.Inside.Steps.{MasksFit, Room, PutIn}
 use Rattle.graphfile.proofs.View.{triangle_up}
-
--- ---- a test over what is left of a list
-module _ (f : ℕ → Bool) (l : List ℕ) where
-  pub all_next : (i : ℕ) → i < length l → all f (drop i l) ≡ (f (get_or l i 0) && all f (drop (i + 1) l))
-  unfolding all
-  all_next i h = ap (all f) (drop-cons l i 0 h) ∙ ap (λ (k : ℕ). f (get_or l i 0) && all f (drop k l)) (sym (add-one i))
-
-  pub all_end : (i : ℕ) → length l ≤ i → all f (drop i l) ≡ true
-  unfolding all
-  all_end i h = ap (all f) (drop_of_length-le l {i = i} h)
 
 pub masks_fit : (l : List ℕ) → all fits_mask l ≡ true → MasksFit l
 unfolding all
@@ -44,6 +35,21 @@ masks_fit (x ∷ l) e i = by (fits_mask x) refl e (λ (e : all fits_mask l ≡ t
     by true p e h (suc i) = h e i
     by false p e h i = let z : ◌≡◌ {A = ℕ} 0 1 = cc in absurd (omega arith)
 
+-- what holds of a graph that a file can say
+pub record Sayable (g : Graph) : Type 0 where
+  pub few : g.learners ≤ max_learners
+  pub fit : MasksFit g.masks
+
+pub said : (g : Graph) → sayable g ≡ true → Sayable g
+unfolding sayable
+said g e = by (leb g.learners max_learners) (all few_masks g.counts) (all fits_mask g.masks) refl refl e
+  where
+    by : (l c m : Bool) → leb g.learners max_learners ≡ l → all fits_mask g.masks ≡ m → (l && c && m) ≡ true → Sayable g
+    by true true true p q e = record { few = leb-true g.learners max_learners p; fit = masks_fit g.masks q }
+    by true true false p q e = let z : ◌≡◌ {A = ℕ} 0 1 = cc in absurd (omega arith)
+    by true false m p q e = let z : ◌≡◌ {A = ℕ} 0 1 = cc in absurd (omega arith)
+    by false c m p q e = let z : ◌≡◌ {A = ℕ} 0 1 = cc in absurd (omega arith)
+
 -- ---- a part written piece by piece: what is put in, and what is still to be put in behind it
 pub record Putting (whole rest : List ℕ) (at here : ℕ) (before after : List ℕ) : Type 0 where
   pub done : List ℕ
@@ -53,10 +59,6 @@ pub record Putting (whole rest : List ℕ) (at here : ℕ) (before after : List 
 
 pub putting_none : (w : List ℕ) (at : ℕ) (b : List ℕ) → Putting w w at at b b
 putting_none w at b = record { done = []; split = refl; place = sym (add-zero at); held = put_at_none b at }
-
--- the same, where what is to be put in is known by an equation
-pub putting_from : {w r : List ℕ} (at : ℕ) (b : List ℕ) → w ≡ r → Putting w r at at b b
-putting_from {w} at b e = subst (λ (r : List ℕ). Putting w r at at b b) e (putting_none w at b)
 
 module _ (w r : List ℕ) (at here : ℕ) (b x : List ℕ) (P : Putting w r at here b x) where
   -- there is room for what is still to be put in
@@ -88,15 +90,13 @@ module _ (w r : List ℕ) (at here : ℕ) (b x : List ℕ) (P : Putting w r at h
       record { behind = P.place ∙ ap (λ (z : List ℕ). at + length z) (sym s); held = P.held ∙ ap (put_at b at) (sym s) }
 
 -- ---- the next piece
-pub masks_next : (masks : List ℕ) (i to : ℕ) → i < to → to ≤ length masks
-    → masks_bytes (slice i to masks) ≡ bytes mask_bytes (get_or masks i 0) ++ masks_bytes (slice (i + 1) to masks)
+pub masks_next : (list : List ℕ) (i : ℕ) → i < length list → masks_bytes (drop i list) ≡ bytes mask_bytes (get_or list i 0) ++ masks_bytes (drop (i + 1) list)
 unfolding masks_bytes
-masks_next masks i to h k =
-    ap masks_bytes (slice-cons i to masks 0 h k) ∙ ap (λ (j : ℕ). bytes mask_bytes (get_or masks i 0) ++ masks_bytes (slice j to masks)) (sym (add-one i))
+masks_next list i h = ap masks_bytes (drop-cons list i 0 h) ∙ ap (λ (j : ℕ). bytes mask_bytes (get_or list i 0) ++ masks_bytes (drop j list)) (sym (add-one i))
 
-pub masks_none : (masks : List ℕ) (i to : ℕ) → i ≡ to → masks_bytes (slice i to masks) ≡ []
+pub masks_none : (list : List ℕ) (i : ℕ) → length list ≤ i → masks_bytes (drop i list) ≡ []
 unfolding masks_bytes
-masks_none masks i to e = ap (λ (j : ℕ). masks_bytes (slice j to masks)) e ∙ ap masks_bytes (slice_empty to masks)
+masks_none list i h = ap masks_bytes (drop_of_length-le list {i = i} h)
 
 next_left : (a l : ℕ) → a < l → l - a ≡ suc (l - (a + 1))
 next_left a l h = omega arith
@@ -196,24 +196,54 @@ module _ (f : ℕ → ℕ → List ℕ) (l : ℕ) (w : List ℕ) (at : ℕ) (b :
     rows_all h = putting_all w (rows_bytes (rows_from f a (l - a))) at here b x P (rows_none f a l h)
 
 -- ---- one list: its count, and its masks behind it
-module _ (counts masks : List ℕ) (k n : ℕ) (z : GraphSized counts masks) (lk : k < lists) (e : n ≡ min (get_or counts k 0) max_masks) where
-  list_bytes_lem : list_bytes (list_of counts masks k) ≡ n ∷ masks_bytes (slice (max_masks * k) (max_masks * k + n) masks)
-  list_bytes_lem =
-      let s = slice (max_masks * k) (max_masks * k + n) masks in
-      let l = z.1 in
-      let m : length s ≡ n = length-slice (max_masks * k) (max_masks * k + n) masks (omega arith) ∙ omega arith in
-      ap list_bytes (list_is counts masks k n e) ∙ ap (λ (j : ℕ). j ∷ masks_bytes s) m
+abbrev pub MasksPut : (list : List ℕ) (at : ℕ) (b : List ℕ) (i here : ℕ) (x : List ℕ) → Type 0
+MasksPut list at b i here x = Putting (list_bytes list) (masks_bytes (drop i list)) at here b x
 
-  pub masks_room : (at m : ℕ) → at + length (list_bytes (list_of counts masks k)) ≤ m → at + 1 + length (masks_bytes (slice (max_masks * k) (max_masks * k + n) masks)) ≤ m
-  masks_room at m h = let l = ap length list_bytes_lem in omega arith
+module _ (list : List ℕ) (at : ℕ) (b : List ℕ) where
+  pub count_put : (x : List ℕ) → at + length (list_bytes list) ≤ length b → x ≡ put_at b at (length list ∷ []) → MasksPut list at b 0 (at + 1) x
+  count_put x h p =
+      let w = list_bytes list in
+      putting_more w w at at b b (putting_none w at b) (length list ∷ []) (masks_bytes list) x (at + 1) h refl (record { behind = refl; held = p })
 
-  pub list_put : (at r : ℕ) (b x y : List ℕ) → at + length (list_bytes (list_of counts masks k)) ≤ length b → x ≡ put_at b at (n ∷ [])
-      → PutIn (masks_bytes (slice (max_masks * k) (max_masks * k + n) masks)) (at + 1) r x y → PutIn (list_bytes (list_of counts masks k)) at r b y
-  list_put at r b x y h p q =
-      let w = list_bytes (list_of counts masks k) in
-      let s = masks_bytes (slice (max_masks * k) (max_masks * k + n) masks) in
-      let P₁ = putting_more w w at at b b (putting_none w at b) (n ∷ []) s x (at + 1) h list_bytes_lem (record { behind = refl; held = p }) in
-      putting_all w [] at r b y (putting_more w s at (at + 1) b x P₁ s [] y r h (sym (append-nil s)) q) refl
+  module _ (i here : ℕ) (x : List ℕ) (P : MasksPut list at b i here x) (l : i < length list) (h : at + length (list_bytes list) ≤ length b) where
+    pub mask_room : here + mask_bytes ≤ length b
+    mask_room =
+        let n = bytes_length mask_bytes (get_or list i 0) in
+        let r = putting_piece (list_bytes list) (masks_bytes (drop i list)) at here b x P (bytes mask_bytes (get_or list i 0)) (masks_bytes (drop (i + 1) list)) h (masks_next list i l) in
+        omega arith
+
+    pub mask_more : (y : List ℕ) → y ≡ put_at x here (bytes mask_bytes (get_or list i 0)) → MasksPut list at b (i + 1) (here + mask_bytes) y
+    mask_more y p =
+        let n = bytes_length mask_bytes (get_or list i 0) in
+        putting_more (list_bytes list) (masks_bytes (drop i list)) at here b x P (bytes mask_bytes (get_or list i 0)) (masks_bytes (drop (i + 1) list)) y (here + mask_bytes) h (masks_next list i l)
+        (record { behind = omega arith; held = p })
+
+  pub masks_all : (i here : ℕ) (x : List ℕ) → MasksPut list at b i here x → length list ≤ i → PutIn (list_bytes list) at here b x
+  masks_all i here x P h = putting_all (list_bytes list) (masks_bytes (drop i list)) at here b x P (masks_none list i h)
+
+-- what a file can say of all masks it can say of each list
+fits_take : (n : ℕ) (l : List ℕ) → MasksFit l → MasksFit (take n l)
+fits_take zero l h i = h' i
+  where
+    h' : (i : ℕ) → get_or [] i 0 < 256 ^ mask_bytes
+    h' zero = omega arith
+    h' (suc i) = omega arith
+fits_take (suc n) [] h i = h i
+fits_take (suc n) (x ∷ l) h zero = h 0
+fits_take (suc n) (x ∷ l) h (suc i) = fits_take n l (λ j. h (suc j)) i
+
+pub list_fits : (counts masks : List ℕ) (k : ℕ) → MasksFit masks → MasksFit (list_of counts masks k)
+unfolding list_of
+list_fits counts masks k h i =
+    let to = max_masks * k + min (get_or counts k 0) max_masks in
+    subst (λ (x : ℕ). x < 256 ^ mask_bytes) (sym (get_or-drop (max_masks * k) (take to masks) i 0)) (fits_take to masks h (max_masks * k + i))
+
+-- a list of a graph is put in where there is room for it
+pub list_asks : (g : Graph) (k : ℕ) (list out : List ℕ) (here : ℕ) → list ≡ list_of g.counts g.masks k → MasksFit g.masks → here + length (list_bytes (list_of g.counts g.masks k)) ≤ length out
+    → (length list ≤ max_masks) × Room list out here (list_bytes list)
+list_asks g k list out here e f h =
+    subst (λ (l : List ℕ). (length l ≤ max_masks) × Room l out here (list_bytes l)) (sym e)
+    (list_most_lem g.counts g.masks k, record { fit = list_fits g.counts g.masks k f; room = h })
 
 -- ---- the whole file
 -- a front put in before what stands behind it
@@ -301,10 +331,3 @@ module _ (f : Contents) (b : List ℕ) (m : 0 + length (file_bytes f) ≤ length
               behind = omega arith;
               held = e ∙ ap₂ (λ (p : List ℕ) (j : ℕ). put_at p 0 (bytes outer_len j)) body.held k ∙ put_front b h (body_bytes f) outer_len (bytes_length outer_len (length (body_bytes f))) (omega arith);
             }
-
--- ---- the file as it stands in front of what it was put into
-pub file_front : (e b x : List ℕ) (n : ℕ) → PutIn e 0 n b x → take (n - 0) (drop 0 x) ≡ e
-file_front e b x n q =
-    let p = q.behind in
-    let k : length e ≡ n - 0 = omega arith in
-    ap (take (n - 0)) q.held ∙ take_at e (drop (0 + length e) b) (n - 0) k

@@ -9,11 +9,12 @@ use lib.Pow.{pow_mono}
 use lib.Dec.{eqb}
 use lib.ListN.{length, get_or, take, drop, length-append, length-drop, take-append-drop}
 use lib.Seq.{drop-cons, drop-drop, drop-append_seam, take-suc, take_all, length-take-le, get_or-drop}
+use Rattle.std.proofs.Common.{Result, Ok, IsOkAnd}
+use Rattle.base.specs.declared.refusal.Refusal.{Refusal}
 use Rattle.base.specs.Tests.{pick}
 use Rattle.base.specs.Bytes.{be, bytes}
 use Rattle.base.proofs.Bytes.{bytes_length, be_at, be_bytes}
 use Rattle.base.specs.declared.refusal.Refusal.TheVariants.{Length}
-use Rattle.graph.specs.declared.Answer.TheVariants.{Accepted}
 use Rattle.graph.specs.declared.Graph.{Graph}
 use Rattle.graph.specs.Limits.{max_acceptors, max_learners, max_masks, mask_bytes}
 use Rattle.graph.specs.LearnerGraph.{LearnerGraph}
@@ -22,9 +23,8 @@ use Rattle.graph.specs.Theorems.{SameGraph}
 use Rattle.graphfile.specs.File.{outer_len, acceptors_at, learners_at, lists_at, Got, got, no, and_then, mask_answer, read_count, read_masks, read_list, read_lists, read_rows, read_graph, contents, graph_said}
 use Rattle.graphfile.specs.Arrays.{held_reading, held_of}
 use Rattle.graphfile.specs.Inside.Steps.{field_of}
-use Rattle.graphfile.specs.declared.Reading.{Reading}
 use Rattle.graphfile.specs.Writer.{masks_bytes, list_bytes, lists_bytes, rows_bytes, body_bytes, file_bytes, listed, rows_from, contents_of, graph_file}
-use Rattle.graphfile.specs.Theorems.{ListInOrder, InOrder, ReadBack, GraphReadsBack}
+use Rattle.graphfile.specs.Theorems.{ListInOrder, InOrder, GraphReadsBack}
 use Rattle.graphfile.proofs.Reader.{masks_go, graph_got}
 use Rattle.graphfile.proofs.View.{held_same, pair_ordered}
 use Rattle.graphfile.proofs.Peopled.{passed_mask}
@@ -57,11 +57,11 @@ next l i h = ap masks_bytes (drop-cons l i 0 h)
 
 module _ (s : List ℕ) (n : ℕ) (few : n ≤ max_acceptors) where
   -- a mask that is accepted has two bytes
-  two_bytes : (e : List ℕ) (m : ℕ) → mask_answer n e m ≡ Accepted → m < 256 ^ mask_bytes
+  two_bytes : (e : List ℕ) (m : ℕ) → mask_answer n e m ≡ Ok tt → m < 256 ^ mask_bytes
   two_bytes e m h = let p = (passed_mask n e m h).1 in let q : 2 ^ n ≤ 2 ^ max_acceptors = pow_mono few in omega arith
 
   -- the masks of l from the i-th on
-  masks_back : (l : List ℕ) → ((i : ℕ) → i < length l → mask_answer n (take i l) (get_or l i 0) ≡ Accepted) → (k i : ℕ) → i + k ≡ length l → (at : ℕ) (q : List ℕ)
+  masks_back : (l : List ℕ) → ((i : ℕ) → i < length l → mask_answer n (take i l) (get_or l i 0) ≡ Ok tt) → (k i : ℕ) → i + k ≡ length l → (at : ℕ) (q : List ℕ)
       → drop at s ≡ masks_bytes (drop i l) ++ q → read_masks s n k (take i l) at ≡ got l (at + mask_bytes * k)
   unfolding read_masks
   masks_back l o zero i e at q d =
@@ -74,11 +74,11 @@ module _ (s : List ℕ) (n : ℕ) (few : n ≤ max_acceptors) where
       let d₁ : drop at s ≡ bytes mask_bytes m ++ (r ++ q) = d ∙ ap (λ (x : List ℕ). x ++ q) (next l i (omega arith)) ∙ append_assoc (bytes mask_bytes m) r q in
       let j = inside s (bytes mask_bytes m) (r ++ q) at (omega arith) d₁ in
       let b : be mask_bytes s at ≡ m = number_back mask_bytes m s (r ++ q) at (omega arith) (two_bytes (take i l) m (o i (omega arith))) d₁ in
-      let c : mask_answer n (take i l) (be mask_bytes s at) ≡ Accepted = ap (mask_answer n (take i l)) b ∙ o i (omega arith) in
+      let c : mask_answer n (take i l) (be mask_bytes s at) ≡ Ok tt = ap (mask_answer n (take i l)) b ∙ o i (omega arith) in
       let t : take i l ++ (be mask_bytes s at ∷ []) ≡ take (suc i) l = ap (λ (x : ℕ). take i l ++ (x ∷ [])) b ∙ sym (take-suc l i 0 (omega arith)) in
       let p : drop (at + mask_bytes) s ≡ r ++ q = ap (λ (x : ℕ). drop (at + x) s) (sym w) ∙ pass s (bytes mask_bytes m) (r ++ q) at d₁ in
       let z : at + mask_bytes + mask_bytes * k ≡ at + mask_bytes * suc k = omega arith in
-      masks_go s n k (take i l) at Accepted (omega arith) c ∙ ap (λ (x : List ℕ). read_masks s n k x (at + mask_bytes)) t
+      masks_go s n k (take i l) at (Ok tt) (omega arith) c ∙ ap (λ (x : List ℕ). read_masks s n k x (at + mask_bytes)) t
       ∙ masks_back l o k (suc i) (omega arith) (at + mask_bytes) q p ∙ ap (got l) z
 
   list_back : (low : ℕ) (l : List ℕ) → ListInOrder n low l → (at : ℕ) (q : List ℕ) → drop at s ≡ list_bytes l ++ q → read_list s n low at ≡ got l (at + length (list_bytes l))
@@ -208,5 +208,5 @@ graph_reads_back g o =
     let c = file_back G o (omega arith) in
     let F = file_got s f (length s) c in
     let S = held_same g.acceptors g.learners f o.most_learners (graph_got s g.acceptors g.learners lists_at f (length s) F.long F.lists) in
-    subst (λ (r : Reading). ReadBack g r) (sym (ap held_reading c))
-    (record { accepted = refl; same = same_through (held_graph g.acceptors g.learners (held_of f).counts (held_of f).masks) (graph_said f) G S (contents_same g) })
+    subst (λ (r : Result Graph Refusal). IsOkAnd r (λ h. SameGraph (view_of h) G)) (sym (ap held_reading c))
+    (same_through (held_graph g.acceptors g.learners (held_of f).counts (held_of f).masks) (graph_said f) G S (contents_same g))

@@ -1,13 +1,12 @@
 -- How a file's lists are held in memory, and what `read` answers.
-use Rattle.std.specs.Prelude.{List, [], ◌∷◌, ℕ, suc, ◌*◌, length, set, replicate}
+use Rattle.std.specs.Prelude.{List, [], ◌∷◌, ℕ, suc, ◌*◌, length, set, replicate, Result, Ok, Err}
+use Rattle.std.specs.Result.{result_and}
 use Rattle.base.specs.Bytes.{put_at}
-use Rattle.graph.specs.declared.Answer.{Answer}
-use Rattle.graph.specs.declared.Answer.TheVariants.{Accepted, Refused}
+use Rattle.base.specs.declared.refusal.Refusal.{Refusal}
 use Rattle.graph.specs.declared.Graph.{Graph}
 use Rattle.graph.specs.Limits.{max_masks, lists}
 use Rattle.graph.specs.Memory.{pair_list}
 use Rattle.graph.specs.Answers.{graph_answer}
-use Rattle.graphfile.specs.declared.Reading.{Reading}
 use Rattle.graphfile.specs.File.{Got, got, no, Contents, contents, graph_said}
 
 -- ---- how they are put in
@@ -42,28 +41,20 @@ held_of f = held_in nothing f
 abbrev pub graph_of_held : ℕ → ℕ → ListArrays → Graph
 graph_of_held n l h = record { acceptors = n; learners = l; counts = h.counts; masks = h.masks }
 
--- A refused file gives a graph of zeros.
-abbrev pub refused_reading : Answer → Reading
-refused_reading r = record { answer = r; graph = graph_of_held 0 0 nothing }
-
--- a graph that is accepted, or why it is not
-abbrev pub answered_reading : Graph → Answer → Reading
-answered_reading g Accepted = record { answer = Accepted; graph = g }
-answered_reading g (Refused r) = refused_reading (Refused r)
-
-abbrev pub graph_reading : Contents → Answer → Reading
-graph_reading f a = answered_reading (graph_of_held f.acceptors f.learners (held_of f)) a
+-- the graph that a file says
+abbrev pub graph_in_file : Contents → Graph
+graph_in_file f = graph_of_held f.acceptors f.learners (held_of f)
 
 -- "6 and 7 come last"
-abbrev pub contents_reading : Got Contents → Reading
-contents_reading (got f at) = graph_reading f (graph_answer (graph_said f))
-contents_reading (no r) = refused_reading (Refused r)
+abbrev pub contents_reading : Got Contents → Result Graph Refusal
+contents_reading (got f at) = result_and (graph_answer (graph_said f)) (Ok (graph_in_file f))
+contents_reading (no r) = Err r
 
--- What `read` answers.
-abbrev pub reading_of : List ℕ → Reading
+-- What `read` answers: the graph of an accepted file, or why the file is turned down.
+abbrev pub reading_of : List ℕ → Result Graph Refusal
 reading_of s = contents_reading (contents s)
 
 -- What `read_contents` answers: rows 1 to 5 alone.
-abbrev pub held_reading : Got Contents → Reading
-held_reading (got f at) = graph_reading f Accepted
-held_reading (no r) = refused_reading (Refused r)
+abbrev pub held_reading : Got Contents → Result Graph Refusal
+held_reading (got f at) = Ok (graph_in_file f)
+held_reading (no r) = Err r

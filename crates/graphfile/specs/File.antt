@@ -1,13 +1,11 @@
 -- The graph file of document 01 as a reader over a list of bytes. Each field is read in its turn, so "the fault nearest the front counts";
 -- "bytes ending before a field give 1 ahead of that field's check".
-use Rattle.std.specs.Prelude.{◌||◌, ◌&&◌, List, [], ◌∷◌, ◌++◌, ℕ, zero, suc, ◌+◌, ◌-◌, ◌^◌, min, max, eqb, ltb, leb, length, get_or}
+use Rattle.std.specs.Prelude.{◌||◌, ◌&&◌, List, [], ◌∷◌, ◌++◌, ℕ, zero, suc, ◌+◌, ◌-◌, ◌^◌, min, max, eqb, ltb, leb, length, get_or, Result, Ok, Err}
 use Rattle.base.specs.Tests.{pick, any}
 use Rattle.base.specs.Sets.{has, contains}
 use Rattle.base.specs.Bytes.{be}
 use Rattle.base.specs.declared.refusal.Refusal.{Refusal}
 use Rattle.base.specs.declared.refusal.Refusal.TheVariants.{Length, Version, Range, Order, Mask}
-use Rattle.graph.specs.declared.Answer.{Answer}
-use Rattle.graph.specs.declared.Answer.TheVariants.{Accepted, Refused}
 use Rattle.graph.specs.Limits.{version, max_acceptors, max_learners, max_masks, mask_bytes}
 use Rattle.graph.specs.LearnerGraph.{LearnerGraph}
 use Rattle.graph.specs.Answers.{graph_answer}
@@ -45,9 +43,9 @@ and_then (got x at) f = f x at
 and_then (no r) f = no r
 
 -- the same after a check
-abbrev pub after_check : {A : Type 0} → Answer → Got A → Got A
-after_check Accepted g = g
-after_check (Refused r) g = no r
+abbrev pub after_check : {A : Type 0} → Result Unit Refusal → Got A → Got A
+after_check (Ok x) g = g
+after_check (Err r) g = no r
 
 -- the last of a list, or d
 unfoldable pub last : ℕ → List ℕ → ℕ
@@ -56,11 +54,11 @@ last d (x ∷ l) = last x l
 
 -- One mask m, behind those of its list that are read: "zero or unknown acceptor, then 4, then containing". A mask that is not 0 is above
 -- none, so the first one ascends.
-abbrev pub mask_answer : ℕ → List ℕ → ℕ → Answer
+abbrev pub mask_answer : ℕ → List ℕ → ℕ → Result Unit Refusal
 mask_answer n earlier m =
-    pick (eqb m 0 || leb (2 ^ n) m) (Refused Mask)
-    (pick (leb m (last 0 earlier)) (Refused Order)
-    (pick (any (contains n (has m)) earlier) (Refused Mask) Accepted))
+    pick (eqb m 0 || leb (2 ^ n) m) (Err Mask)
+    (pick (leb m (last 0 earlier)) (Err Order)
+    (pick (any (contains n (has m)) earlier) (Err Mask) (Ok tt)))
 
 module _ (s : List ℕ) where
   -- one byte, from low to high
@@ -126,10 +124,10 @@ graph_said f =
     }
 
 -- "6 and 7 come last"
-abbrev pub contents_answer : Got Contents → Answer
+abbrev pub contents_answer : Got Contents → Result Unit Refusal
 contents_answer (got f at) = graph_answer (graph_said f)
-contents_answer (no r) = Refused r
+contents_answer (no r) = Err r
 
 -- Whether a file is accepted, or why not.
-abbrev pub answer_of : List ℕ → Answer
+abbrev pub answer_of : List ℕ → Result Unit Refusal
 answer_of s = contents_answer (contents s)

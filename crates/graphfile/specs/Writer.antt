@@ -1,14 +1,13 @@
 -- The graph file of a graph in memory: its bytes in the order in which File reads them, and what `write` answers.
-use Rattle.std.specs.Prelude.{Bool, ◌&&◌, List, [], ◌∷◌, ◌++◌, ℕ, zero, suc, ◌^◌, ltb, leb, length, drop}
+use Rattle.std.specs.Prelude.{Bool, ◌&&◌, List, [], ◌∷◌, ◌++◌, ℕ, zero, suc, ◌^◌, ltb, leb, length, drop, Result, Ok, Err}
 use Rattle.base.specs.Tests.{pick, all}
 use Rattle.base.specs.Bytes.{bytes}
+use Rattle.base.specs.declared.refusal.Refusal.{Refusal}
 use Rattle.base.specs.declared.refusal.Refusal.TheVariants.{Argument}
 use Rattle.graph.specs.declared.Graph.{Graph}
 use Rattle.graph.specs.Limits.{version, max_learners, max_masks, mask_bytes}
 use Rattle.graph.specs.LearnerGraph.{LearnerGraph}
 use Rattle.graph.specs.Memory.{view_of}
-use Rattle.graphfile.specs.declared.Written.{Written}
-use Rattle.graphfile.specs.declared.Written.TheVariants.{Bytes, NotWritten}
 use Rattle.graphfile.specs.File.{outer_len, Contents}
 
 -- ---- the bytes of what a file says
@@ -70,8 +69,8 @@ abbrev pub writable : Graph → List ℕ → Bool
 writable g buffer = sayable g && leb (length (graph_file g)) (length buffer)
 
 -- the length of the file, or 17
-abbrev pub write_answer : Graph → List ℕ → Written
-write_answer g buffer = pick (writable g buffer) (Bytes (length (graph_file g))) (NotWritten Argument)
+abbrev pub write_answer : Graph → List ℕ → Result ℕ Refusal
+write_answer g buffer = pick (writable g buffer) (Ok (length (graph_file g))) (Err Argument)
 
 -- the buffer with the file at its front; bytes behind it keep their values, and all do where nothing is written
 abbrev pub write_to : Graph → List ℕ → List ℕ

@@ -1,41 +1,29 @@
 // The graph file, read field by field from the front, each list put into its place as it is read.
 ghost use Rattle.std.specs.Prelude.{◌≡◌, [], ◌+◌, ◌-◌, ◌*◌, ◌≤◌, ◌<◌, length};
-ghost use Rattle.std.proofs.Math.Seq.{slice};
 ghost use Rattle.base.specs.Bytes.{be};
-ghost use Rattle.graph.specs.Limits.{lists, max_acceptors, max_masks, mask_bytes};
-ghost use Rattle.graphfile.specs.File.{lists_at, last, mask_answer, read_count, read_masks, read_list, read_lists, read_rows, read_graph};
+ghost use Rattle.graph.specs.Limits.{lists, max_learners, max_acceptors, max_masks, mask_bytes};
+ghost use Rattle.graphfile.specs.File.{lists_at, mask_answer, read_count, read_masks, read_list, read_lists, read_rows, read_graph};
 ghost use Rattle.graph.specs.Memory.{pair_list};
-ghost use Rattle.graphfile.specs.Arrays.{hold_all, hold_rows, held_in};
-ghost use Rattle.graphfile.specs.Inside.Steps.{field_of, MasksHeld, HeldAfter, InMemory, ReadFrom};
+ghost use Rattle.graphfile.specs.Arrays.{hold, hold_all, hold_rows, held_in};
+ghost use Rattle.graphfile.specs.Inside.Steps.{field_of, MasksHeld, HeldAfter, ReadFrom};
 
 use crate::{LISTS_AT, MASK_BYTES};
+use base::read16;
 use base::refusal::Refusal;
-use base::{read16, size};
 use graph::lists::{known, pair_list, some_within};
-use graph::{Answer, MAX_MASKS, Mask};
+use graph::{Graph, MAX_MASKS, Mask};
 
-// What a field holds, or the place behind it; or why the file is turned down there.
-#[derive(Clone, Copy)]
-pub enum Field {
-    Is(usize),
-    Refused(Refusal),
-}
+// Each reader gives what a field holds, or the place behind it; or why the file is turned down there.
 
 // A byte from low to high.
-pub fn read_count(s: &[u8], at: usize, low: usize, high: usize) -> Field
+pub fn read_count(s: &[u8], at: usize, low: usize, high: usize) -> Result<usize, Refusal>
     ensures { result ≡ field_of (read_count s.now low high at) }
 {
-    if s.len() <= at {
-        return Field::Refused(Refusal::Length);
+    let x = usize::from(*s.get(at).ok_or(Refusal::Length)?);
+    if x < low || high < x {
+        return Err(Refusal::Range);
     }
-    let x = size(s[at]);
-    if x < low {
-        return Field::Refused(Refusal::Range);
-    }
-    if high < x {
-        return Field::Refused(Refusal::Range);
-    }
-    Field::Is(x)
+    Ok(x)
 }
 
 // A mask of the file.
@@ -46,32 +34,23 @@ fn read_mask(s: &[u8], at: usize) -> Mask
     read16(s, at) as Mask
 }
 
-// Whether m may stand behind the masks from `from` to `to`, the last of which is `previous`.
-fn mask_answer(
-    masks: &[Mask],
-    from: usize,
-    to: usize,
-    acceptors: u8,
-    previous: Mask,
-    m: Mask,
-) -> Answer
-    requires { (to ≤ length masks.now) × ((acceptors ≤ max_acceptors) × (previous ≡ last 0 (slice from to masks.now))) }
-    ensures { result ≡ mask_answer acceptors (slice from to masks.now) m }
+// Whether m may stand behind the earlier masks of its list. It is not 0, so it is above none where it is the first.
+fn mask_answer(acceptors: u8, earlier: &[Mask], m: Mask) -> Result<(), Refusal>
+    requires { acceptors ≤ max_acceptors }
+    ensures { result ≡ mask_answer acceptors earlier.now m }
 {
-    if m == 0 {
-        return Answer::Refused(Refusal::Mask);
-    }
     let all = known(acceptors);
-    if all < m {
-        return Answer::Refused(Refusal::Mask);
+    if m == 0 || all < m {
+        return Err(Refusal::Mask);
     }
+    let previous = earlier.last().copied().unwrap_or(0);
     if m <= previous {
-        return Answer::Refused(Refusal::Order);
+        return Err(Refusal::Order);
     }
-    if some_within(masks, from, to, m | !all) {
-        return Answer::Refused(Refusal::Mask);
+    if some_within(earlier, m | !all) {
+        return Err(Refusal::Mask);
     }
-    Answer::Accepted
+    Ok(())
 }
 
 // `count` masks from `at` on, put into the places from `first` on.
@@ -82,141 +61,85 @@ fn read_masks(
     count: usize,
     first: usize,
     masks: &mut [Mask],
-) -> Field
+) -> Result<usize, Refusal>
     requires { ReadFrom s.now at acceptors × ((count ≤ max_masks) × (first + max_masks ≤ length masks.old)) }
     ensures { MasksHeld (read_masks s.now acceptors count [] at) result first masks.old masks.new }
 {
     let mut here = at;
-    let mut previous: Mask = 0;
-    let mut j: usize = 0;
-    while j < count {
+    for j in 0..count {
         if s.len() < here + MASK_BYTES {
-            return Field::Refused(Refusal::Length);
+            return Err(Refusal::Length);
         }
         let m = read_mask(s, here);
-        if let Answer::Refused(r) = mask_answer(masks, first, first + j, acceptors, previous, m) {
-            return Field::Refused(r);
-        }
+        mask_answer(acceptors, &masks[first..first + j], m)?;
         masks[first + j] = m;
-        previous = m;
         here += MASK_BYTES;
-        j += 1;
     }
-    Field::Is(here)
+    Ok(here)
 }
 
 // A list, put in as list k.
-fn read_list(s: &[u8], at: usize, acceptors: u8, low: usize, k: usize, masks: &mut [Mask]) -> Field
-    requires { ReadFrom s.now at acceptors × ((k < lists) × (length masks.old ≡ max_masks * lists)) }
-    ensures { MasksHeld (read_list s.now acceptors low at) result (max_masks * k) masks.old masks.new }
+fn read_list(s: &[u8], at: usize, low: usize, k: usize, graph: &mut Graph) -> Result<usize, Refusal>
+    requires { ReadFrom s.now at graph.old.acceptors × (k < lists) }
+    ensures { HeldAfter (read_list s.now graph.old.acceptors low at) (hold k) result graph.old graph.new }
 {
-    match read_count(s, at, low, MAX_MASKS) {
-        Field::Refused(r) => Field::Refused(r),
-        Field::Is(count) => read_masks(s, at + 1, acceptors, count, MAX_MASKS * k, masks),
-    }
+    let count = read_count(s, at, low, MAX_MASKS)?;
+    graph.counts[k] = s[at];
+    read_masks(
+        s,
+        at + 1,
+        graph.acceptors,
+        count,
+        MAX_MASKS * k,
+        &mut graph.masks,
+    )
 }
 
 // The quorum list of each learner.
-fn read_quorums(
-    s: &[u8],
-    at: usize,
-    acceptors: u8,
-    learners: usize,
-    counts: &mut [u8],
-    masks: &mut [Mask],
-) -> Field
-    requires { ReadFrom s.now at acceptors × InMemory counts.old masks.old learners }
-    ensures { HeldAfter (read_lists s.now acceptors 1 learners [] at) (λ ls. hold_all (λ a. a) 0 ls (record { counts = counts.entry.now; masks = masks.old })) result (record { counts = counts.exit.now; masks = masks.new }) }
+fn read_quorums(s: &[u8], at: usize, graph: &mut Graph) -> Result<usize, Refusal>
+    requires { ReadFrom s.now at graph.old.acceptors × (graph.old.learners ≤ max_learners) }
+    ensures { HeldAfter (read_lists s.now graph.old.acceptors 1 graph.old.learners [] at) (hold_all (λ a. a) 0) result graph.old graph.new }
 {
     let mut here = at;
-    let mut a: usize = 0;
-    while a < learners {
-        let next = match read_list(s, here, acceptors, 1, a, masks) {
-            Field::Is(next) => next,
-            Field::Refused(r) => return Field::Refused(r),
-        };
-        counts[a] = s[here];
-        here = next;
-        a += 1;
+    for a in 0..usize::from(graph.learners) {
+        here = read_list(s, here, 1, a, graph)?;
     }
-    Field::Is(here)
+    Ok(here)
 }
 
 // The safe lists of the pairs a-a, a-(a + 1) and so on.
-fn read_row(
-    s: &[u8],
-    at: usize,
-    acceptors: u8,
-    learners: usize,
-    a: usize,
-    counts: &mut [u8],
-    masks: &mut [Mask],
-) -> Field
-    requires { (a ≤ learners) × (ReadFrom s.now at acceptors × InMemory counts.old masks.old learners) }
-    ensures { HeldAfter (read_lists s.now acceptors 0 (learners - a) [] at) (λ ls. hold_all (pair_list a) a ls (record { counts = counts.entry.now; masks = masks.old })) result (record { counts = counts.exit.now; masks = masks.new }) }
+fn read_row(s: &[u8], at: usize, a: usize, graph: &mut Graph) -> Result<usize, Refusal>
+    requires { (a ≤ graph.old.learners) × (ReadFrom s.now at graph.old.acceptors × (graph.old.learners ≤ max_learners)) }
+    ensures { HeldAfter (read_lists s.now graph.old.acceptors 0 (graph.old.learners - a) [] at) (hold_all (pair_list a) a) result graph.old graph.new }
 {
     let mut here = at;
-    let mut b = a;
-    while b < learners {
-        let k = pair_list(a, b);
-        let next = match read_list(s, here, acceptors, 0, k, masks) {
-            Field::Is(next) => next,
-            Field::Refused(r) => return Field::Refused(r),
-        };
-        counts[k] = s[here];
-        here = next;
-        b += 1;
+    for b in a..usize::from(graph.learners) {
+        here = read_list(s, here, 0, pair_list(a, b), graph)?;
     }
-    Field::Is(here)
+    Ok(here)
 }
 
 // The safe lists of all pairs.
-fn read_rows(
-    s: &[u8],
-    at: usize,
-    acceptors: u8,
-    learners: usize,
-    counts: &mut [u8],
-    masks: &mut [Mask],
-) -> Field
-    requires { ReadFrom s.now at acceptors × InMemory counts.old masks.old learners }
-    ensures { HeldAfter (read_rows s.now acceptors learners [] at) (λ rows. hold_rows 0 rows (record { counts = counts.entry.now; masks = masks.old })) result (record { counts = counts.exit.now; masks = masks.new }) }
+fn read_rows(s: &[u8], at: usize, graph: &mut Graph) -> Result<usize, Refusal>
+    requires { ReadFrom s.now at graph.old.acceptors × (graph.old.learners ≤ max_learners) }
+    ensures { HeldAfter (read_rows s.now graph.old.acceptors graph.old.learners [] at) (hold_rows 0) result graph.old graph.new }
 {
     let mut here = at;
-    let mut a: usize = 0;
-    while a < learners {
-        match read_row(s, here, acceptors, learners, a, counts, masks) {
-            Field::Is(next) => {
-                here = next;
-            }
-            Field::Refused(r) => return Field::Refused(r),
-        }
-        a += 1;
+    for a in 0..usize::from(graph.learners) {
+        here = read_row(s, here, a, graph)?;
     }
-    Field::Is(here)
+    Ok(here)
 }
 
 // All lists, and nothing behind them.
-pub fn read_lists(
-    s: &[u8],
-    acceptors: u8,
-    learners: usize,
-    counts: &mut [u8],
-    masks: &mut [Mask],
-) -> Field
-    requires { ReadFrom s.now lists_at acceptors × InMemory counts.old masks.old learners }
-    ensures { HeldAfter (read_graph s.now acceptors learners lists_at) (held_in (record { counts = counts.entry.now; masks = masks.old })) result (record { counts = counts.exit.now; masks = masks.new }) }
+pub fn read_lists(s: &[u8], graph: &mut Graph) -> Result<usize, Refusal>
+    requires { ReadFrom s.now lists_at graph.old.acceptors × (graph.old.learners ≤ max_learners) }
+    ensures { HeldAfter (read_graph s.now graph.old.acceptors graph.old.learners lists_at) (λ f h. held_in h f) result graph.old graph.new }
 {
-    let at = match read_quorums(s, LISTS_AT, acceptors, learners, counts, masks) {
-        Field::Is(at) => at,
-        Field::Refused(r) => return Field::Refused(r),
-    };
-    let end = match read_rows(s, at, acceptors, learners, counts, masks) {
-        Field::Is(end) => end,
-        Field::Refused(r) => return Field::Refused(r),
-    };
+    let at = read_quorums(s, LISTS_AT, graph)?;
+    let end = read_rows(s, at, graph)?;
     if end != s.len() {
-        return Field::Refused(Refusal::Length);
+        return Err(Refusal::Length);
     }
-    Field::Is(end)
+    Ok(end)
 }

@@ -6,13 +6,13 @@ ghost use Rattle.std.specs.Prelude.{◌≡◌, ◌||◌, ℕ, ◌*◌, ◌≤◌
 ghost use Rattle.base.specs.Tests.{all, below};
 ghost use Rattle.base.specs.Bytes.{part};
 ghost use Rattle.graph.specs.Limits.{max_learners, lists};
-ghost use Rattle.round.specs.Handed.{list_fits, graph_fits, message_fits, fits};
+ghost use Rattle.graph.specs.Memory.{triangle};
+ghost use Rattle.round.specs.Handed.{in_use, list_fits, graph_fits, message_fits, fits};
 ghost use Rattle.round.specs.Limits.{max_held, no_place};
 ghost use Rattle.roundbytes.specs.Layout.{round_len, round_in};
 ghost use Rattle.handed.specs.Inside.Counting.{Counted};
 
 use admission::start::own_fits;
-use base::size;
 use graph::{LISTS, MAX_ACCEPTORS, MAX_LEARNERS, MAX_MASKS};
 use message::layout::PROPOSAL;
 use round::{MAX_HELD, NO_PLACE};
@@ -26,21 +26,20 @@ const MOST_ACCEPTORS: u8 = MAX_ACCEPTORS as u8;
 
 const MOST_MASKS: u8 = MAX_MASKS as u8;
 
+// Whether list k of a graph is in use: the quorums of a learner, or the safe sets of a pair of learners. `pairs` is how many pairs there are.
+fn in_use(learners: usize, pairs: usize, k: usize) -> bool
+    requires { (pairs ≡ triangle learners) × (pairs < 256) }
+    ensures { result ≡ in_use learners k }
+{
+    k < learners || (MAX_LEARNERS <= k && k < MAX_LEARNERS + pairs)
+}
+
 // Whether list k of the graph has at most eight masks, where it is in use. `pairs` is how many pairs of learners there are.
 fn list_fits(s: &[u8], learners: usize, pairs: usize, k: usize) -> bool
     requires { Counted s.now learners pairs k }
     ensures { result ≡ list_fits (round_in s.now).graph k }
 {
-    if s[LIST_COUNTS_AT + k] <= MOST_MASKS {
-        return true;
-    }
-    if k < learners {
-        return false;
-    }
-    if k < MAX_LEARNERS {
-        return true;
-    }
-    !(k < MAX_LEARNERS + pairs)
+    !in_use(learners, pairs, k) || s[LIST_COUNTS_AT + k] <= MOST_MASKS
 }
 
 // Whether each list of the graph that is in use has at most eight masks.
@@ -50,14 +49,7 @@ fn lists_fit(s: &[u8]) -> bool
 {
     let learners = learners_of(s);
     let pairs = learners * (learners + 1) / 2;
-    let mut k: usize = 0;
-    while k < LISTS {
-        if !list_fits(s, learners, pairs, k) {
-            return false;
-        }
-        k += 1;
-    }
-    true
+    (0..LISTS).all(|k| list_fits(s, learners, pairs, k))
 }
 
 // Whether the counts of the graph lie in their tables.
@@ -86,10 +78,7 @@ fn graph_fits(s: &[u8]) -> bool
 fn place_fits(held: usize, place: u8) -> bool
     ensures { result ≡ (eqb place no_place || ltb place held) }
 {
-    if place == NO_PLACE {
-        return true;
-    }
-    size(place) < held
+    place == NO_PLACE || usize::from(place) < held
 }
 
 // Whether the `count` references of place p are to earlier places.
@@ -98,14 +87,7 @@ fn refers_back(s: &[u8], p: usize, count: usize) -> bool
     ensures { result ≡ all (λ (j : ℕ). ltb j p) (part count (round_in s.now).references (max_held * p)) }
 {
     let first = REFERENCES_AT + MAX_HELD * p;
-    let mut i: usize = 0;
-    while i < count {
-        if p <= size(s[first + i]) {
-            return false;
-        }
-        i += 1;
-    }
-    true
+    s[first..first + count].iter().all(|j| usize::from(*j) < p)
 }
 
 // Whether the counts and places of the message at place p lie in their tables.
@@ -113,7 +95,7 @@ fn message_fits(s: &[u8], p: usize) -> bool
     requires { (round_len ≤ length s.now) × (p < max_held) }
     ensures { result ≡ message_fits (round_in s.now) p }
 {
-    let count = size(count_at(s, p));
+    let count = usize::from(count_at(s, p));
     if MAX_HELD < count {
         return false;
     }
@@ -135,14 +117,7 @@ fn messages_fit(s: &[u8]) -> bool
     ensures { result ≡ all (message_fits (round_in s.now)) (below (round_in s.now).held) }
 {
     let held = held_of(s);
-    let mut p: usize = 0;
-    while p < held {
-        if !message_fits(s, p) {
-            return false;
-        }
-        p += 1;
-    }
-    true
+    (0..held).all(|p| message_fits(s, p))
 }
 
 // Whether a round handed in can be one.

@@ -10,7 +10,7 @@ ghost use Rattle.admission.specs.Inside.Votes.{record_of};
 ghost use Rattle.holding.specs.Inside.Storing.{Free};
 
 use admission::rows::Vote;
-use base::{put_all, put8, put64, size};
+use base::{put_all, put8, put64};
 use message::layout::{ACCEPTOR, ID_LEN, PROPOSAL};
 use round::{MAX_HELD, NO_PLACE};
 use roundbytes::readers::{held_of, kind_at};
@@ -35,7 +35,7 @@ fn put_row(
     ensures kept { Kept s.old s.new }
 {
     let held = s[HELD_AT];
-    let place = size(held);
+    let place = usize::from(held);
     put_all(s, IDS_AT + ID_LEN * place, id);
     put8(s, KINDS_AT + place, kind);
     put8(s, SIGNERS_AT + place, signer);
@@ -57,15 +57,14 @@ pub fn hold_proposal(s: &mut [u8], id: &[u8], proposer: u8, ballot: u64)
 }
 
 // An acceptor message put behind the others. The place of its previous message is the one that the id there names.
-pub fn hold_vote(s: &mut [u8], id: &[u8], vote: Vote, known: u8)
-    requires { Free s.old id.now × ((vote.count ≤ max_held) × (vote.previous ≡ previous_place (round_in s.old) (named (round_in s.old) vote.previous))) }
-    ensures held { round_in s.new ≡ hold (round_in s.old) (record_of (round_in s.old) id.now vote) known }
+pub fn hold_vote(s: &mut [u8], id: &[u8], vote: &Vote, known: u8)
+    requires { Free s.old id.now × (vote.now.previous ≡ previous_place (round_in s.old) (named (round_in s.old) vote.now.previous)) }
+    ensures held { round_in s.new ≡ hold (round_in s.old) (record_of (round_in s.old) id.now vote.now) known }
     ensures kept { Kept s.old s.new }
 {
     let place = held_of(s);
-    let count = vote.count;
-    let places = &vote.places[..];
-    put_all(s, REFERENCES_AT + MAX_HELD * place, &places[0..count]);
+    let count = vote.places.len();
+    put_all(s, REFERENCES_AT + MAX_HELD * place, &vote.places);
     put_row(
         s,
         id,

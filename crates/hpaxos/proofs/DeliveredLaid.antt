@@ -8,6 +8,7 @@ use Prim.Native.Nat.{ℕ, ◌^◌, ◌<◌}
 use native.Mathlib.Omega.{arith}
 use lib.Dec.{ltb}
 use lib.ListN.{length, get_or}
+use Rattle.std.specs.Prelude.{Ok, Err, None}
 use Rattle.base.specs.Tests.{pick}
 use Rattle.base.specs.Bytes.{Octets}
 use Rattle.base.specs.declared.refusal.Refusal.{Refusal}
@@ -15,18 +16,17 @@ use Rattle.base.specs.declared.refusal.Refusal.TheVariants.{Argument}
 use Rattle.digest.specs.Sha256.{sha256}
 use Rattle.graph.specs.declared.Graph.{Graph}
 use Rattle.message.specs.Reader.{reading}
-use Rattle.message.specs.declared.Reading.{Reading}
-use Rattle.message.specs.declared.Reading.TheVariants.{OfProposer, OfAcceptor, Refused}
+use Rattle.round.specs.Outcomes.{Reading}
+use Rattle.message.specs.declared.Message.TheVariants.{OfProposer, OfAcceptor}
 use Rattle.message.proofs.Checks.{of_proposer}
 use Rattle.protocol.specs.Table.{Held, offers, says}
 use Rattle.round.specs.Round.{Round}
-use Rattle.round.specs.declared.Outcome.TheVariants as outcome
 use Rattle.round.specs.Limits.{reply_len}
 use Rattle.round.specs.Holdings.{is_voting, place_of}
 use Rattle.round.specs.Handed.{fits}
 use Rattle.round.specs.Rows.{reference_ids, previous_id, vote_record, message_of, proposal_rows, acceptor_rows, first_of}
 use Rattle.round.specs.Reply.{reply_bytes, reply_record, is_sent}
-use Rattle.round.specs.Delivery.{Result, refused, hold, returned, sent, joins, answered, processed, entered, decided_by, taken, delivery, delivered}
+use Rattle.round.specs.Delivery.{Effect, refused, hold, returned, sent, joins, answered, processed, entered, decided_by, taken, delivery, delivered}
 use Rattle.round.specs.Premises.{Typed}
 use Rattle.round.proofs.Step.{Same}
 use Rattle.round.proofs.Reached.{step_grows}
@@ -46,7 +46,7 @@ abbrev Small : Held → Type 0
 Small (offers i s b) = b < 256 ^ 8
 Small (says i s p l) = Unit {0}
 
-pick_ballots : (t : Bool) (x y : Result) → Ballots x.round → Ballots y.round → Ballots (pick t x y).round
+pick_ballots : (t : Bool) (x y : Effect) → Ballots x.round → Ballots y.round → Ballots (pick t x y).round
 pick_ballots true x y h k = h
 pick_ballots false x y h k = k
 
@@ -59,7 +59,7 @@ processed_ballots : (r : Round) (p : ℕ) → Ballots r → Ballots (processed s
 unfolding processed
 processed_ballots r p h =
     let z = reply_bytes r p in
-    pick_ballots (is_voting r) (answered sha256 r p z) (record { outcome = outcome.Accepted; round = r; reply = [] })
+    pick_ballots (is_voting r) (answered sha256 r p z) (record { outcome = Ok None; round = r; reply = [] })
     (pick_ballots (is_sent r (message_of r (reply_record r (sha256 z) p))) (sent sha256 r p z) (joins sha256 r p) (hold_ballots r (reply_record r (sha256 z) p) 0 tt h) h) h
 
 entered_ballots : (r : Round) (h : Held) (o : Option ℕ) → Small h → Ballots r → Ballots (entered sha256 r h o).round
@@ -72,11 +72,11 @@ module _ (r : Round) (h : Ballots r) (b : List ℕ) (bytes : Octets b) where
   decided_ballots e none w = entered_ballots r e (place_of r (sha256 b)) w h
 
   taken_ballots : (x : Reading) → reading b ≡ x → Ballots (taken sha256 r b x).round
-  taken_ballots (Refused e) q = h
-  taken_ballots (OfProposer m) q =
+  taken_ballots (Err e) q = h
+  taken_ballots (Ok (OfProposer m)) q =
       decided_ballots (offers (sha256 b) m.proposer m.ballot) (first_of (proposal_rows r (sha256 b) m))
       (rw (of_proposer b m q).1 (be_below 8 b 9 bytes))
-  taken_ballots (OfAcceptor m) q =
+  taken_ballots (Ok (OfAcceptor m)) q =
       let v = vote_record r (sha256 b) m.signer (previous_id b m) (reference_ids b m) in
       decided_ballots v (first_of (acceptor_rows r (sha256 b) m (previous_id b m) (reference_ids b m) (message_of r v))) tt
 
@@ -112,7 +112,7 @@ pub delivered_laid : (r : Round) → Laid r → Typed r → (b buffer : List ℕ
     → Laid (delivered sha256 r b buffer).round × Typed (delivered sha256 r b buffer).round
 delivered_laid r l t b buffer o = by (refused_or_not (delivery sha256 r b buffer).outcome)
   where
-    by : ((e : Refusal) × ((delivery sha256 r b buffer).outcome ≡ outcome.Refused e)) ⊎ ((e : Refusal) → (delivery sha256 r b buffer).outcome ≢ outcome.Refused e)
+    by : ((e : Refusal) × ((delivery sha256 r b buffer).outcome ≡ Err e)) ⊎ ((e : Refusal) → (delivery sha256 r b buffer).outcome ≢ Err e)
         → Laid (delivered sha256 r b buffer).round × Typed (delivered sha256 r b buffer).round
     by (inl (e, k)) = subst (λ (x : Round). Laid x × Typed x) (sym (refused_leaves_all_lem sha256 r b buffer e k).0) (l, t)
     by (inr k) =

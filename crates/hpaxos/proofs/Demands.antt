@@ -10,7 +10,9 @@ use native.Mathlib.Omega.{arith}
 use lib.Dec.{ltb}
 use lib.ListN.{length}
 use borrow.Author.Tests.{le-ltb, ltb-false}
+use Rattle.std.specs.Prelude.{Result, Ok, Err}
 use Rattle.base.specs.Tests.{◌∈◌, pick}
+use Rattle.base.specs.declared.refusal.Refusal.{Refusal}
 use Rattle.base.specs.declared.refusal.Refusal.TheVariants.{Argument}
 use Rattle.digest.specs.Sha256.{sha256}
 use Rattle.graph.specs.declared.Graph.{Graph}
@@ -20,8 +22,7 @@ use Rattle.message.specs.Writer.{fronted}
 use Rattle.protocol.specs.Message.{Message}
 use Rattle.protocol.specs.Votes.{Few}
 use Rattle.round.specs.Round.{Round}
-use Rattle.round.specs.declared.Opening.{Opening}
-use Rattle.round.specs.declared.Opening.TheVariants as opening
+use Rattle.round.specs.Outcomes.{Opening}
 use Rattle.round.specs.Opening.{opened}
 use Rattle.round.specs.Delivery.{message_read}
 use Rattle.round.specs.Answers.{opening_number, Page}
@@ -43,19 +44,19 @@ use Rattle.hpaxos.proofs.Keeping.{Holds, opened_holds}
 use Rattle.hpaxos.proofs.Lists.{Says, AllSaid, Tells, tells, bytes_hold}
 
 -- ---- an opening that answered 0 opened the round of the rules in a buffer that is long enough
-open_cases : (x : Opening) (lent : List ℕ) → opening_number (call.opening_in x lent) ≡ 0 → (x ≡ opening.Opened) × (round_len ≤ length lent)
-open_cases opening.Opened lent e = (refl, by (ltb (length lent) round_len) refl e)
+open_cases : (x : Opening) (lent : List ℕ) → opening_number (call.opening_in x lent) ≡ 0 → (x ≡ Ok tt) × (round_len ≤ length lent)
+open_cases (Ok tt) lent e = (refl, by (ltb (length lent) round_len) refl e)
   where
-    by : (t : Bool) → ltb (length lent) round_len ≡ t → opening_number (pick t (opening.Refused Argument) opening.Opened) ≡ 0 → round_len ≤ length lent
+    by : (t : Bool) → ltb (length lent) round_len ≡ t → opening_number (pick t (Err Argument) (Ok tt)) ≡ 0 → round_len ≤ length lent
     by true q k = absurd (omega arith)
     by false q k = ltb-false (length lent) round_len q
-open_cases (opening.Refused x) lent e = absurd (omega (arith, (row_number x).0))
+open_cases (Err x) lent e = absurd (omega (arith, (row_number x).0))
 
 module _ (file : List ℕ) (house bay acceptor : ℕ) (b : List ℕ) (o : OpenedIn file house bay acceptor b) where
   abbrev round : Round
   round = (opened file house bay acceptor).round
 
-  is_open : ((opened file house bay acceptor).answer ≡ opening.Opened) × (round_len ≤ length o.lent)
+  is_open : ((opened file house bay acceptor).answer ≡ Ok tt) × (round_len ≤ length o.lent)
   unfolding call.open_answer
   is_open = open_cases (opened file house bay acceptor).answer o.lent o.answers
 
@@ -69,8 +70,8 @@ module _ (file : List ℕ) (house bay acceptor : ℕ) (b : List ℕ) (o : Opened
   holds : Holds b round
   holds = subst (λ (x : List ℕ). Holds x round) (sym (o.leaves ∙ front)) (opened_holds file house bay acceptor o.lent round o.file_bytes starts is_open.1)
 
-  graph : (reading_of file).graph ≡ round.graph
-  graph = sym (opened_round file house bay acceptor round starts).graph
+  graph : (g : Graph) → reading_of file ≡ Ok g → g ≡ round.graph
+  graph g read = let e : ◌≡◌ {A = Result Graph Refusal} (Ok g) (Ok round.graph) = sym read ∙ (opened_round file house bay acceptor round starts).accepted in cc
 
   told : (l : List Call) → OfBytes l → Tells (run b l) (rules.run sha256 round (map ruled l))
   told l s = tells l b round holds s
@@ -120,14 +121,14 @@ module _ (fileA fileB : List ℕ) (house bay acceptorA acceptorB : ℕ) (bA bB :
 
 -- ---- DEMAND 3
 pub agreement_in_bytes : AgreementInBytes
-agreement_in_bytes file house bay acceptorA acceptorB bA bB oA oB a b in_a in_b lA lB sA sB safe free =
+agreement_in_bytes file plan read house bay acceptorA acceptorB bA bB oA oB a b in_a in_b lA lB sA sB safe free =
     let rA = round file house bay acceptorA bA oA in
     let rB = round file house bay acceptorB bB oB in
     let cA = map ruled lA in
     let cB = map ruled lB in
     let tA = told file house bay acceptorA bA oA lA sA in
     let tB = told file house bay acceptorB bB oB lB sB in
-    let g : (reading_of file).graph ≡ rA.graph = graph file house bay acceptorA bA oA in
+    let g : plan ≡ rA.graph = graph file house bay acceptorA bA oA plan read in
     let edge : SafeEdge (view_of rA.graph) (accepted (run bA lA) ++ accepted (run bB lB)) a b = subst (λ (k : Graph). SafeEdge (view_of k) (accepted (run bA lA) ++ accepted (run bB lB)) a b) g safe in
     one_value_lem (pages a (run bA lA) ++ pages b (run bB lB)) (pages a (rules.run sha256 rA cA) ++ pages b (rules.run sha256 rB cB))
     (said_both (pages a (run bA lA)) (pages b (run bB lB)) (pages a (rules.run sha256 rA cA)) (pages b (rules.run sha256 rB cB)) (tA.shows a) (tB.shows b))
@@ -166,13 +167,13 @@ one_caught_list_in_bytes fileA fileB house bay acceptorA acceptorB bA bB oA oB l
 
 -- ---- how often our acceptor votes
 pub few_replies_in_bytes : FewRepliesInBytes
-few_replies_in_bytes file house bay acceptor b o l s free =
+few_replies_in_bytes file plan read house bay acceptor b o l s free =
     let r = round file house bay acceptor b o in
     let t = told file house bay acceptor b o l s in
     let votes : List Message = map (message_read sha256 (round_in (last_bytes b l))) (written (run b l)) in
     let ruled-votes : List Message = map (message_read sha256 (rules.last_round sha256 r (map ruled l))) (written (rules.run sha256 r (map ruled l))) in
     let same : votes ≡ ruled-votes = λ i. map (message_read sha256 (round_in_bytes file house bay acceptor b o l s i)) (t.writes i) in
-    subst (λ (k : Graph). Few (view_of k) votes) (sym (graph file house bay acceptor b o))
+    subst (λ (k : Graph). Few (view_of k) votes) (sym (graph file house bay acceptor b o plan read))
     (subst (Few (view_of r.graph)) (sym same)
     (rounds.few_replies sha256 sha256_is_id_rule file house bay acceptor r (starts file house bay acceptor b o) (map ruled l)
     (subst (NoCollision sha256) (ap₂ ◌++◌ t.accepts t.writes) free)))

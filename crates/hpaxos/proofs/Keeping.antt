@@ -5,12 +5,12 @@ use Prim.Native.Nat.{ℕ, ◌≤◌}
 use native.Mathlib.Omega.{arith}
 use lib.ListN.{length, drop, length-append, length-drop}
 use borrow.Author.Tests.{le-ltb}
+use Rattle.std.specs.Prelude.{Ok, Err, Some, None}
 use Rattle.base.specs.Bytes.{Octets}
 use Rattle.digest.specs.Sha256.{sha256}
 use Rattle.message.specs.Writer.{fronted}
 use Rattle.round.specs.Round.{Round}
-use Rattle.round.specs.declared.Outcome.{Outcome}
-use Rattle.round.specs.declared.Outcome.TheVariants as outcome
+use Rattle.round.specs.Outcomes.{Outcome}
 use Rattle.round.specs.Delivery.{delivered}
 use Rattle.round.specs.Premises.{Starts, Typed}
 use Rattle.round.proofs.JustOpened.{opened_round}
@@ -41,9 +41,9 @@ module _ (b message reply : List ℕ) (long : round_len ≤ length b) where
       n = (delivered sha256 (round_in b) message reply).round
 
       by : (o : Outcome) → round_len ≤ length (delivered_to o n b)
-      by outcome.Accepted = omega (arith, front_long (round_bytes n) b)
-      by (outcome.Replied k) = omega (arith, front_long (round_bytes n) b)
-      by (outcome.Refused e) = long
+      by (Ok None) = omega (arith, front_long (round_bytes n) b)
+      by (Ok (Some k)) = omega (arith, front_long (round_bytes n) b)
+      by (Err e) = long
 
   deliver_read : Laid (delivered sha256 (round_in b) message reply).round → round_in (deliver_to b message reply) ≡ (delivered sha256 (round_in b) message reply).round
   deliver_read laid = ap round_in here ∙ by (delivered sha256 (round_in b) message reply).outcome refl
@@ -52,9 +52,9 @@ module _ (b message reply : List ℕ) (long : round_len ≤ length b) where
       n = (delivered sha256 (round_in b) message reply).round
 
       by : (o : Outcome) → o ≡ (delivered sha256 (round_in b) message reply).outcome → round_in (delivered_to o n b) ≡ n
-      by outcome.Accepted e = front_read n b laid
-      by (outcome.Replied k) e = front_read n b laid
-      by (outcome.Refused x) e = sym (refused_leaves_all_lem sha256 (round_in b) message reply x (sym e)).0
+      by (Ok None) e = front_read n b laid
+      by (Ok (Some k)) e = front_read n b laid
+      by (Err x) e = sym (refused_leaves_all_lem sha256 (round_in b) message reply x (sym e)).0
 
 -- ---- a round that a buffer holds: as its types have it, and such that it can be laid out as bytes
 pub record Holds (b : List ℕ) (r : Round) : Type 0 where

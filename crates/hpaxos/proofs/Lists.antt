@@ -16,7 +16,7 @@ use Rattle.base.specs.declared.refusal.Refusal.TheVariants.{Argument}
 use Rattle.digest.specs.Sha256.{sha256}
 use Rattle.message.specs.Writer.{fronted}
 use Rattle.round.specs.Round.{Round}
-use Rattle.round.specs.declared.Report.{Report}
+use Rattle.round.specs.Outcomes.{Reporting}
 use Rattle.round.specs.Delivery.{delivered, replied}
 use Rattle.round.specs.Report.{reported}
 use Rattle.round.specs.Answers.{outcome_number, has_reply, reply_size, is_taken, report_number, Page, page_of}
@@ -72,13 +72,13 @@ said_here true q buffer l m h p (Memᴰ.tail i) = let (r, j, s) = h p i in (r, M
 said_here false q buffer l m h p i = h p i
 
 -- meant: the report is for the learner that is asked about; short: the buffer is too short
-report_said : (meant short : Bool) (x : Report) (buffer : List ℕ) (l m : List Page) → AllSaid l m
+report_said : (meant short : Bool) (x : Reporting) (buffer : List ℕ) (l m : List Page) → AllSaid l m
     → AllSaid (pick (meant && eqb (pick short (number_of Argument) (report_number x)) 0) (page_in (pick short buffer (shown_in x buffer)) ∷ l) l) (pick (meant && eqb (report_number x) 0) (page_of x ∷ m) m)
 report_said false short x buffer l m h = h
 report_said true true x buffer l m h = said_behind (eqb (report_number x) 0) (page_of x) l m h
 report_said true false x buffer l m h = said_here (eqb (report_number x) 0) (page_of x) buffer l m h
 
-tells_report : (a : ℕ) (short : Bool) (x : Report) (buffer : List ℕ) (s t : List Seen) → Tells s t
+tells_report : (a : ℕ) (short : Bool) (x : Reporting) (buffer : List ℕ) (s t : List Seen) → Tells s t
     → Tells (reporting a (pick short (number_of Argument) (report_number x)) (page_in (pick short buffer (shown_in x buffer))) ∷ s) (reporting a (report_number x) (page_of x) ∷ t)
 unfolding accepted written pages
 tells_report a short x buffer s t h =
@@ -101,7 +101,7 @@ module _ (b : List ℕ) (r : Round) (h : Holds b r) where
       → seen b (report a buffer) ≡ reporting a (pick (ltb (length buffer) page_len) (number_of Argument) (report_number (reported r a))) (page_in (pick (ltb (length buffer) page_len) buffer (shown_in (reported r a) buffer)))
   seen_report a buffer =
       let short = ltb (length buffer) page_len in
-      ap (λ (x : Report). reporting a (pick short (number_of Argument) (report_number x)) (page_in (pick short buffer (shown_in x buffer)))) (reported_in a)
+      ap (λ (x : Reporting). reporting a (pick short (number_of Argument) (report_number x)) (page_in (pick short buffer (shown_in x buffer)))) (reported_in a)
 
 -- ---- a list
 pub tells : (l : List Call) (b : List ℕ) (r : Round) → Holds b r → OfBytes l → Tells (run b l) (rules.run sha256 r (map ruled l))

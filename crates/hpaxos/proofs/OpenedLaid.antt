@@ -8,17 +8,18 @@ use Prim.Native.Nat.{ℕ, zero, suc, ◌+◌, ◌*◌, ◌^◌}
 use native.Mathlib.Omega.{arith}
 use lib.Dec.{eqb, ltb}
 use lib.ListN.{length, length-replicate}
+use Rattle.std.specs.Prelude.{Result, Ok, Err}
+use Rattle.std.specs.Result.{result_and}
 use Rattle.base.specs.Tests.{◌∈◌, pick}
 use Rattle.base.specs.Bytes.{be, Octets}
 use Rattle.base.specs.declared.refusal.Refusal.TheVariants.{Length}
-use Rattle.graph.specs.declared.Answer.{Answer}
-use Rattle.graph.specs.declared.Answer.TheVariants.{Accepted, Refused}
+use Rattle.base.specs.declared.refusal.Refusal.{Refusal}
 use Rattle.graph.specs.declared.Graph.{Graph}
 use Rattle.graph.specs.Limits.{max_masks}
 use Rattle.graph.specs.Answers.{graph_answer}
 use Rattle.graphfile.specs.File.{Got, got, no, mask_answer, read_count, read_masks, read_list, read_lists, read_rows, read_graph, Contents, contents, graph_said}
 use Rattle.graph.specs.Memory.{pair_list, GraphSized}
-use Rattle.graphfile.specs.Arrays.{ListArrays, hold, hold_all, hold_rows, held_of, nothing, graph_reading, contents_reading, reading_of}
+use Rattle.graphfile.specs.Arrays.{ListArrays, hold, hold_all, hold_rows, held_of, nothing, graph_in_file, contents_reading, reading_of}
 use Rattle.graphfile.proofs.Reader.{GraphGot, pick_got, check_got, then_got, graph_got}
 use Rattle.graphfile.proofs.View.{Fits, all_fits, rows_fits}
 use Rattle.graphfile.proofs.Accepted.{file_got}
@@ -120,17 +121,16 @@ file_held s o f end e =
       rows_held 0 f.rows Q rs (lists_held (λ a. a) 0 f.quorums nothing qs (bounds.below_zeros (256 ^ 4) (omega arith) 352)),
     )
 
-accepted_whole : (s : List ℕ) → Octets s → (reading_of s).answer ≡ Accepted → Readable (reading_of s).graph
+accepted_whole : (s : List ℕ) → Octets s → (g : Graph) → reading_of s ≡ Ok g → Readable g
 unfolding Readable
-accepted_whole s o = by (contents s) refl
+accepted_whole s o g = by (contents s) refl
   where
-    held : (f : Contents) (a : Answer) → Fits (held_of f) × Masks (held_of f).masks → (graph_reading f a).answer ≡ Accepted
-        → GraphSized (graph_reading f a).graph.counts (graph_reading f a).graph.masks × Masks (graph_reading f a).graph.masks
-    held f Accepted w e = w
-    held f (Refused r) w e = let z : ◌≡◌ {A = ℕ} 0 1 = cc in absurd (omega arith)
+    held : (f : Contents) (a : Result Unit Refusal) → Fits (held_of f) × Masks (held_of f).masks → result_and a (Ok (graph_in_file f)) ≡ Ok g
+        → GraphSized g.counts g.masks × Masks g.masks
+    held f (Ok x) w e = let same : graph_in_file f ≡ g = cc in subst (λ (h : Graph). GraphSized h.counts h.masks × Masks h.masks) same w
+    held f (Err r) w e = let z : ◌≡◌ {A = ℕ} 0 1 = cc in absurd (omega arith)
 
-    by : (g : Got Contents) → contents s ≡ g → (contents_reading g).answer ≡ Accepted
-        → GraphSized (contents_reading g).graph.counts (contents_reading g).graph.masks × Masks (contents_reading g).graph.masks
+    by : (x : Got Contents) → contents s ≡ x → contents_reading x ≡ Ok g → GraphSized g.counts g.masks × Masks g.masks
     by (got f m) e k = held f (graph_answer (graph_said f)) (file_held s o f m e) k
     by (no r) e k = let z : ◌≡◌ {A = ℕ} 0 1 = cc in absurd (omega arith)
 
@@ -139,7 +139,7 @@ pub opened_laid : (file : List ℕ) (house bay own : ℕ) (r : Round) → Octets
 unfolding Readable
 opened_laid file house bay own r o s =
     let O = opens file house bay own r s in
-    let (size, masks) = accepted_whole file o O.accepted in
+    let (size, masks) = accepted_whole file o O.graph O.accepted in
     subst layout.Laid (sym O.round)
     (record {
       sized = record {

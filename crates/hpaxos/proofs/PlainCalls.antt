@@ -6,36 +6,36 @@ use mathlib.Core.List.{List, ◌++◌}
 use Prim.Native.Nat.{ℕ}
 use lib.Dec.{ltb}
 use lib.ListN.{length, drop}
+use Rattle.std.specs.Prelude.{Result, Ok, Err}
 use Rattle.base.specs.Tests.{pick}
+use Rattle.base.specs.declared.refusal.Refusal.{Refusal}
 use Rattle.base.specs.declared.refusal.Refusal.TheVariants.{Argument}
 use Rattle.digest.specs.Sha256.{sha256}
-use Rattle.message.specs.declared.Place.{Place}
-use Rattle.message.specs.declared.Place.TheVariants.{At, NoPlace}
-use Rattle.message.specs.declared.Reading.{Reading}
-use Rattle.message.specs.declared.Reading.TheVariants.{OfProposer, OfAcceptor, Refused}
-use Rattle.message.specs.declared.Written.TheVariants.{Bytes, NotWritten}
+use Rattle.round.specs.Outcomes.{Reading}
+use Rattle.message.specs.declared.Message.TheVariants.{OfProposer, OfAcceptor}
 use Rattle.message.specs.Layout.{id_len}
 use Rattle.message.specs.Reader.{reading, reference_in}
 use Rattle.message.specs.Writer.{proposal_bytes, fronted, copied_from, copy_answer}
-use Rattle.plain.specs.Message.{answer_of, row_len, fields_of, read_number}
+use Rattle.plain.specs.Answers.{answer_of}
+use Rattle.plain.specs.Message.{row_len, fields_of}
 use Rattle.hpaxos.specs.Demands.{NothingRefusedWrites}
 
 digest_refused : (t : Bool) (digest after : List ℕ) → pick {A = ℕ} t 17 0 ≢ 0 → pick t digest after ≡ digest
 digest_refused true digest after k = refl
 digest_refused false digest after k = absurd (k refl)
 
-read_refused : (t : Bool) (s : List ℕ) (x : Reading) (fields : List ℕ) → pick t 17 (read_number x) ≢ 0 → pick t fields (fields_of s x fields) ≡ fields
+read_refused : (t : Bool) (s : List ℕ) (x : Reading) (fields : List ℕ) → pick t 17 (answer_of x) ≢ 0 → pick t fields (fields_of s x fields) ≡ fields
 read_refused true s x fields k = refl
-read_refused false s (OfProposer p) fields k = absurd (k refl)
-read_refused false s (OfAcceptor m) fields k = absurd (k refl)
-read_refused false s (Refused e) fields k = refl
+read_refused false s (Ok (OfProposer p)) fields k = absurd (k refl)
+read_refused false s (Ok (OfAcceptor m)) fields k = absurd (k refl)
+read_refused false s (Err e) fields k = refl
 
-reference_refused : (t : Bool) (s : List ℕ) (x : Place) (id : List ℕ) → answer_of (pick t (NotWritten Argument) (copy_answer x)) ≢ 0 → pick t id (copied_from s x id) ≡ id
+reference_refused : (t : Bool) (s : List ℕ) (x : Result ℕ Refusal) (id : List ℕ) → answer_of (pick t (Err Argument) (copy_answer x)) ≢ 0 → pick t id (copied_from s x id) ≡ id
 reference_refused true s x id k = refl
-reference_refused false s (At p) id k = absurd (k refl)
-reference_refused false s (NoPlace e) id k = refl
+reference_refused false s (Ok p) id k = absurd (k refl)
+reference_refused false s (Err e) id k = refl
 
-write_refused : (t : Bool) (n : ℕ) (message after : List ℕ) → answer_of (pick t (NotWritten Argument) (Bytes n)) ≢ 0 → pick t message after ≡ message
+write_refused : (t : Bool) (n : ℕ) (message after : List ℕ) → answer_of {X = ℕ} (pick t (Err Argument) (Ok n)) ≢ 0 → pick t message after ≡ message
 write_refused true n message after k = refl
 write_refused false n message after k = absurd (k refl)
 

@@ -6,30 +6,25 @@ use mathlib.Core.Bool.{Bool, true, false, not, ◌&&◌}
 use mathlib.Core.List.{List}
 use Prim.Native.Nat.{ℕ, ◌+◌, ◌*◌, ◌≤◌, ◌<◌}
 use native.Mathlib.Omega.{arith}
-use lib.Dec.{T, eqb, ltb, not_T}
+use lib.Dec.{T, ltb, not_T}
 use lib.ListN.{length, get_or}
 use borrow.Author.Tests.{ne_eqb}
+use Rattle.std.specs.Result.{result_and}
+use Rattle.std.specs.Prelude.{Result, Ok, Err, Some, None}
 use Rattle.base.specs.Tests.{pick}
 use Rattle.base.specs.Refusals.{number_of, struck}
+use Rattle.base.specs.declared.refusal.Refusal.{Refusal}
 use Rattle.base.specs.declared.refusal.Refusal.TheVariants.{Argument}
 use Rattle.base.proofs.Refusals.{number_unused}
 use Rattle.base.proofs.Tests.{not_true, ne→neqb}
 use Rattle.base.proofs.Cuts.{get_d_part}
 use Rattle.digest.specs.Sha256.{sha256}
-use Rattle.graph.specs.declared.Answer.{Answer}
-use Rattle.graph.specs.declared.Answer.TheVariants.{Accepted, Refused}
 use Rattle.graph.specs.declared.Graph.{Graph}
-use Rattle.graph.specs.Answers.{answer_number}
-use Rattle.graphfile.specs.File.{answer_of}
 use Rattle.graphfile.specs.Arrays.{reading_of}
-use Rattle.graphfile.proofs.Files.{reading_answer}
+use Rattle.graphfile.proofs.Files.{checked_as_read}
 use Rattle.message.specs.Layout.{proposal_kind}
 use Rattle.round.specs.Round.{Round}
-use Rattle.round.specs.declared.Opening.{Opening}
-use Rattle.round.specs.declared.Opening.TheVariants as opening
-use Rattle.round.specs.declared.Outcome.{Outcome}
-use Rattle.round.specs.declared.Outcome.TheVariants as outcome
-use Rattle.round.specs.declared.Report.{Report}
+use Rattle.round.specs.Outcomes.{Opening, Outcome, Reporting}
 use Rattle.round.specs.declared.Report.TheVariants as answer
 use Rattle.round.specs.Limits.{max_held, no_place, own_allowed}
 use Rattle.round.specs.Holdings as held
@@ -38,7 +33,7 @@ use Rattle.round.specs.Opening.{empty_round, refused_opening, opened_with, opene
 use Rattle.round.specs.Delivery.{delivered, replied}
 use Rattle.round.specs.Report.{reported}
 use Rattle.round.specs.Answers.{opening_number, outcome_number, is_taken, report_number}
-use Rattle.round.proofs.Answers.{row_shut, refused_number}
+use Rattle.round.proofs.Answers.{refused_number}
 use Rattle.round.proofs.Fitting.{Fitting, fits_out}
 use Rattle.round.proofs.OneCall.{refused_leaves_all_lem}
 use Rattle.round.proofs.OneByte.{unfit_delivered, unfit_reported, narrow}
@@ -48,14 +43,16 @@ use Rattle.roundbytes.specs.Layout.{held_at, kinds_at, counts_at, references_at,
 use Rattle.roundbytes.specs.Opening.{opened_to}
 use Rattle.roundbytes.proofs.Fields.{acceptors_in, own_in, held_in_lem, kind_at, count_at_lem, reference_at}
 use Rattle.roundbytes.proofs.Typing.{bytes_are_typed}
+use Rattle.plain.specs.Answers.{answer_of}
+use Rattle.plain.specs.Graph.{check_graph}
 use Rattle.engine.specs.Calls.{opening_in, open_answer, open_to, deliver_answer, delivered_to, deliver_to, reply_to, report_answer}
 use Rattle.hpaxos.specs.Round.{page_len, shown_in}
 use Rattle.hpaxos.specs.Demands.{NothingRefusedAlters, StruckInBytes, StruckNeverAnswered, WidePlaceIs17, OpeningInOrder, Is17InBytes, ForeignOwnIs17}
 
 -- ---- a call that is turned down
 open_refused : (a : Opening) (r : Round) (b : List ℕ) → opening_number a ≢ 0 → opened_to a r b ≡ b
-open_refused opening.Opened r b k = absurd (k refl)
-open_refused (opening.Refused e) r b k = refl
+open_refused (Ok tt) r b k = absurd (k refl)
+open_refused (Err e) r b k = refl
 
 deliver_refused : (b message reply : List ℕ) → T (not (is_taken (outcome_number (deliver_answer b message reply)))) → (deliver_to b message reply ≡ b) × (reply_to b message reply ≡ reply)
 unfolding deliver_answer deliver_to reply_to
@@ -64,14 +61,14 @@ deliver_refused b message reply = go (ltb (length b) round_len) (delivered sha25
     r : Round
     r = round_in b
 
-    go : (t : Bool) (o : Outcome) → o ≡ (delivered sha256 r message reply).outcome → T (not (is_taken (outcome_number (pick t (outcome.Refused Argument) o))))
+    go : (t : Bool) (o : Outcome) → o ≡ (delivered sha256 r message reply).outcome → T (not (is_taken (outcome_number (pick t (Err Argument) o))))
         → (pick t b (delivered_to o (delivered sha256 r message reply).round b) ≡ b) × (pick t reply (replied sha256 r message reply) ≡ reply)
     go true o e k = (refl, refl)
     go false o e k =
         let (x, q) = refused_number o k in
         (ap (λ (y : Outcome). delivered_to y (delivered sha256 r message reply).round b) q, (refused_leaves_all_lem sha256 r message reply x (sym e ∙ q)).1)
 
-report_refused : (t : Bool) (x : Report) (page : List ℕ) → pick t (number_of Argument) (report_number x) ≢ 0 → pick t page (shown_in x page) ≡ page
+report_refused : (t : Bool) (x : Reporting) (page : List ℕ) → pick t (number_of Argument) (report_number x) ≢ 0 → pick t page (shown_in x page) ≡ page
 report_refused true x page k = refl
 report_refused false x page k = simp (ne_eqb (report_number x) 0 k)
 
@@ -98,20 +95,20 @@ struck_never_answered = (
 )
   where
     opens : (a : Opening) → opening_number a ≢ struck
-    opens opening.Opened k = absurd (omega arith)
-    opens (opening.Refused e) k = number_unused e k
+    opens (Ok tt) k = absurd (omega arith)
+    opens (Err e) k = number_unused e k
 
     delivers : (o : Outcome) → outcome_number o ≢ struck
-    delivers outcome.Accepted k = absurd (omega arith)
-    delivers (outcome.Replied n) k = absurd (omega arith)
-    delivers (outcome.Refused e) k = number_unused e k
+    delivers (Ok None) k = absurd (omega arith)
+    delivers (Ok (Some n)) k = absurd (omega arith)
+    delivers (Err e) k = number_unused e k
 
-    reports : (t : Bool) (a : Report) → pick t (number_of Argument) (report_number a) ≢ struck
+    reports : (t : Bool) (a : Reporting) → pick t (number_of Argument) (report_number a) ≢ struck
     reports true a k = absurd (omega arith)
-    reports false answer.Undecided k = absurd (omega arith)
-    reports false (answer.Decided x) k = absurd (omega arith)
-    reports false (answer.Split x y) k = absurd (omega arith)
-    reports false (answer.Refused e) k = number_unused e k
+    reports false (Ok answer.Undecided) k = absurd (omega arith)
+    reports false (Ok (answer.Decided x)) k = absurd (omega arith)
+    reports false (Ok (answer.Split x y)) k = absurd (omega arith)
+    reports false (Err e) k = number_unused e k
 
 -- ---- a reference place of 128 to 255
 module _ (round : List ℕ) (p i : ℕ) (inside : p < get_or round held_at 0) (votes : get_or round (kinds_at + p) 0 ≢ proposal_kind) (named : i < get_or round (counts_at + p) 0) (wide : max_held ≤ get_or round (references_at + (max_held * p + i)) 0) where
@@ -144,11 +141,11 @@ unfit_is_17 round e =
       λ learner buffer. reports (ltb (length buffer) page_len) (ltb (length round) round_len) (reported r learner) (unfit_reported r learner e),
     )
   where
-    delivers : (t : Bool) (o : Outcome) → o ≡ outcome.Refused Argument → outcome_number (pick t (outcome.Refused Argument) o) ≡ 17
+    delivers : (t : Bool) (o : Outcome) → o ≡ Err Argument → outcome_number (pick t (Err Argument) o) ≡ 17
     delivers true o e = refl
     delivers false o e = ap outcome_number e
 
-    reports : (t u : Bool) (a : Report) → a ≡ answer.Refused Argument → pick t (number_of Argument) (report_number (pick u (answer.Refused Argument) a)) ≡ 17
+    reports : (t u : Bool) (a : Reporting) → a ≡ Err Argument → pick t (number_of Argument) (report_number (pick u (Err Argument) a)) ≡ 17
     reports true u a e = refl
     reports false true a e = refl
     reports false false a e = ap report_number e
@@ -159,27 +156,25 @@ wide_place_is17 round p i inside votes named wide = unfit_is_17 round (wide_unfi
 -- ---- an opening: its file first, then the own number and the buffer
 pub opening_in_order : OpeningInOrder
 unfolding open_answer opened
-opening_in_order file house bay acceptor b = by (answer_of file) (reading_answer file)
+opening_in_order file house bay acceptor b = (
+  λ e read. (checks (Err e) read, ap answers read),
+  λ g read. (checks (Ok g) read, ap answers read ∙ allowed g (own_allowed acceptor g.acceptors)),
+)
   where
-    g : Graph
-    g = (reading_of file).graph
+    checks : (x : Result Graph Refusal) → reading_of file ≡ x → check_graph file ≡ answer_of {X = Unit} (result_and x (Ok tt))
+    checks x read = ap (answer_of {X = Unit}) (checked_as_read file ∙ ap (λ (y : Result Graph Refusal). result_and y (Ok tt)) read)
 
-    answers : Answer → ℕ
-    answers a = opening_number (opening_in (opened_with (reading_of file) house bay acceptor a).answer b)
+    answers : Result Graph Refusal → ℕ
+    answers x = opening_number (opening_in (opened_with x house bay acceptor).answer b)
 
-    short : (u : Bool) → opening_number (pick u (opening.Refused Argument) opening.Opened) ≡ pick (not u) 0 17
+    short : (u : Bool) → opening_number (pick u (Err Argument) (Ok tt)) ≡ pick (not u) 0 17
     short true = refl
     short false = refl
 
-    allowed : (t : Bool) → opening_number (opening_in (pick t (record { answer = opening.Opened; round = empty_round g house bay acceptor no_place }) (refused_opening Argument)).answer b)
+    allowed : (g : Graph) (t : Bool) → opening_number (opening_in (pick t (record { answer = Ok tt; round = empty_round g house bay acceptor no_place }) (refused_opening Argument)).answer b)
         ≡ pick (t && not (ltb (length b) round_len)) 0 17
-    allowed true = short (ltb (length b) round_len)
-    allowed false = refl
-
-    by : (a : Answer) → (reading_of file).answer ≡ a
-        → answers (reading_of file).answer ≡ pick (eqb (answer_number a) 0) (pick (own_allowed acceptor g.acceptors && not (ltb (length b) round_len)) 0 17) (answer_number a)
-    by Accepted e = ap answers e ∙ allowed (own_allowed acceptor g.acceptors)
-    by (Refused x) e = ap answers e ∙ sym (simp (row_shut x))
+    allowed g true = short (ltb (length b) round_len)
+    allowed g false = refl
 
 pub foreign_own_is17 : ForeignOwnIs17
 foreign_own_is17 b h k =

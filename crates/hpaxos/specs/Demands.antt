@@ -1,11 +1,13 @@
 -- What the owner asked for, over the C calls: by the numbers that they answer and the bytes of the lent buffers alone, with SHA-256. proofs/Demands,
 -- proofs/RoundCalls and proofs/PlainCalls prove each under the same name. A round buffer is b.
-use Rattle.std.specs.Prelude.{◌≡◌, ◌≢◌, not, ◌&&◌, List, ◌++◌, map, ℕ, ◌+◌, ◌*◌, ◌≤◌, ◌<◌, T, eqb, ltb, length, get_or}
+use Rattle.std.specs.Prelude.{◌≡◌, ◌≢◌, not, ◌&&◌, List, ◌++◌, map, ℕ, ◌+◌, ◌*◌, ◌≤◌, ◌<◌, T, ltb, length, get_or, Ok, Err}
 use Rattle.std.proofs.Math.Option.{none}
 use Rattle.base.specs.Tests.{pick}
 use Rattle.base.specs.Bytes.{be, Octets}
-use Rattle.base.specs.Refusals.{struck}
+use Rattle.base.specs.Refusals.{number_of, struck}
+use Rattle.base.specs.declared.refusal.Refusal.{Refusal}
 use Rattle.digest.specs.Sha256.{sha256}
+use Rattle.graph.specs.declared.Graph.{Graph}
 use Rattle.graph.specs.Memory.{view_of}
 use Rattle.graphfile.specs.Arrays.{reading_of}
 use Rattle.message.specs.declared.Proposal.{Proposal}
@@ -24,7 +26,8 @@ use Rattle.round.specs.Demands.{SafeEdge, NoCollision, OneValue, ChainFrom}
 use Rattle.roundbytes.specs.Layout.{own_at, held_at, kinds_at, counts_at, references_at, round_len, round_in}
 use Rattle.plain.specs.Digest.{digest_answer, digest_buffer}
 use Rattle.plain.specs.Graph.{check_graph}
-use Rattle.plain.specs.Message.{answer_of, read_answer, fields_to}
+use Rattle.plain.specs.Answers.{answer_of}
+use Rattle.plain.specs.Message.{read_answer, fields_to}
 use Rattle.engine.specs.Calls.{open_to, deliver_to, reply_to}
 use Rattle.hpaxos.specs.Round.{open_answer, deliver_answer, report_answer, report_to}
 use Rattle.hpaxos.specs.Lists.{OpenedIn, Call, OfBytes, run, last_bytes, ruled}
@@ -35,11 +38,12 @@ use Rattle.hpaxos.specs.Lists.{OpenedIn, Call, OfBytes, run, last_bytes, ruled}
 -- over both lists, that name the same previous message or both name none; let no two different messages accepted or written in the two lists have one id.
 -- Then all decided reports for A in its list and for B in its own give one value, and none for either is a split."
 abbrev pub AgreementInBytes : Type 0
-AgreementInBytes = (file : List ℕ) (house bay acceptorA acceptorB : ℕ) (bA bB : List ℕ)
+AgreementInBytes = (file : List ℕ) (g : Graph) → reading_of file ≡ Ok g
+    → (house bay acceptorA acceptorB : ℕ) (bA bB : List ℕ)
     → OpenedIn file house bay acceptorA bA → OpenedIn file house bay acceptorB bB
-    → (a b : ℕ) → a < (reading_of file).graph.learners → b < (reading_of file).graph.learners
+    → (a b : ℕ) → a < g.learners → b < g.learners
     → (lA lB : List Call) → OfBytes lA → OfBytes lB
-    → SafeEdge (view_of (reading_of file).graph) (accepted (run bA lA) ++ accepted (run bB lB)) a b
+    → SafeEdge (view_of g) (accepted (run bA lA) ++ accepted (run bB lB)) a b
     → NoCollision sha256 ((accepted (run bA lA) ++ accepted (run bB lB)) ++ (written (run bA lA) ++ written (run bB lB)))
     → OneValue (pages a (run bA lA) ++ pages b (run bB lB))
 
@@ -89,16 +93,17 @@ OneCaughtListInBytes = (fileA fileB : List ℕ) (house bay acceptorA acceptorB :
 -- ---- CONTROLLERS THAT TALK TO THEMSELVES: for each ballot our acceptor writes at most one 1b and at most as many 2as as the plan has learners. What the
 -- written bytes say is read over the round that the list leaves in the buffer.
 abbrev pub FewRepliesInBytes : Type 0
-FewRepliesInBytes = (file : List ℕ) (house bay acceptor : ℕ) (b : List ℕ) → OpenedIn file house bay acceptor b → (l : List Call) → OfBytes l
+FewRepliesInBytes = (file : List ℕ) (g : Graph) → reading_of file ≡ Ok g → (house bay acceptor : ℕ) (b : List ℕ) → OpenedIn file house bay acceptor b → (l : List Call) → OfBytes l
     → NoCollision sha256 (accepted (run b l) ++ written (run b l))
-    → Few (view_of (reading_of file).graph) (map (message_read sha256 (round_in (last_bytes b l))) (written (run b l)))
+    → Few (view_of g) (map (message_read sha256 (round_in (last_bytes b l))) (written (run b l)))
 
--- ---- OPENING: "a graph file (checked first; 17 comes after 7)". A file that is turned down answers its own row, whatever else is given or lent; then
--- it is 17 where the acceptor number is neither in the graph nor 256 and where the buffer is too short for a round; and otherwise 0.
+-- ---- OPENING: "a graph file (checked first; 17 comes after 7)". A file that is turned down answers its own row, whatever else is given or lent; with
+-- the graph g of one that is not, it is 17 where the acceptor number is neither in g nor 256 and where the buffer is too short for a round; and otherwise 0.
 abbrev pub OpeningInOrder : Type 0
 OpeningInOrder = (file : List ℕ) (house bay acceptor : ℕ) (b : List ℕ)
-    → open_answer file house bay acceptor b
-    ≡ pick (eqb (check_graph file) 0) (pick (own_allowed acceptor (reading_of file).graph.acceptors && not (ltb (length b) round_len)) 0 17) (check_graph file)
+    → ((e : Refusal) → reading_of file ≡ Err e → (check_graph file ≡ number_of e) × (open_answer file house bay acceptor b ≡ number_of e))
+    × ((g : Graph) → reading_of file ≡ Ok g
+    → (check_graph file ≡ 0) × (open_answer file house bay acceptor b ≡ pick (own_allowed acceptor g.acceptors && not (ltb (length b) round_len)) 0 17))
 
 -- ---- a round that is 17 in every call on it, whatever else is given or lent
 abbrev pub Is17InBytes : List ℕ → Type 0

@@ -6,7 +6,7 @@ use Rattle.base.specs.Bytes.{bytes}
 use Rattle.base.specs.Refusals.{number_of}
 use Rattle.base.specs.declared.refusal.Refusal.TheVariants.{Argument}
 use Rattle.message.specs.Writer.{fronted}
-use Rattle.round.specs.declared.Report.{Report}
+use Rattle.round.specs.Outcomes.{Reporting}
 use Rattle.round.specs.Answers.{opening_number, outcome_number, report_number, Page, page_of}
 use Rattle.engine.specs.Calls as call
 
@@ -27,7 +27,7 @@ abbrev pub page_len : ℕ
 page_len = 17
 
 -- the buffer after a report: the page at its front where the number is 0, or all as it was
-abbrev pub shown_in : Report → List ℕ → List ℕ
+abbrev pub shown_in : Reporting → List ℕ → List ℕ
 shown_in x buffer = pick (eqb (report_number x) 0) (fronted (page_bytes (page_of x)) buffer) buffer
 
 -- a buffer that is too short for a page is 17 before all else

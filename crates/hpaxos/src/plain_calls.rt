@@ -3,7 +3,8 @@ ghost use Rattle.std.specs.Prelude.{◌≡◌};
 ghost use Rattle.message.specs.Writer.{meant_round, proposal_bytes, proposal_of, reference_answer, reference_to, written_to, wrote};
 ghost use Rattle.plain.specs.Digest.{digest_answer, digest_buffer};
 ghost use Rattle.plain.specs.Graph.{check_graph};
-ghost use Rattle.plain.specs.Message.{answer_of, fields_to, read_answer};
+ghost use Rattle.plain.specs.Answers.{answer_of};
+ghost use Rattle.plain.specs.Message.{fields_to, read_answer};
 
 // 0: the first 32 bytes of digest are the digest of message, and those behind keep their values. 17: digest is too short, and is not written.
 #[unsafe(no_mangle)]

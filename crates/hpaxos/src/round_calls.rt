@@ -6,9 +6,9 @@ ghost use Rattle.round.specs.Answers.{page};
 ghost use Rattle.engine.specs.Calls.{open_to, deliver_to, reply_to};
 ghost use Rattle.hpaxos.specs.Round.{open_answer, deliver_answer, page_bytes, page_len, report_answer, report_to};
 
-use base::refusal::{Refusal, number};
+use base::refusal::Refusal;
 use base::{put8, put64};
-use round::{Opening, Outcome, Report};
+use round::Report;
 
 // What is reported,
 const UNDECIDED: u8 = 0;
@@ -41,8 +41,8 @@ pub extern "C" fn hpaxos_open(
     ensures { (result ≡ open_answer file.now house bay acceptor round.old) × (round.new ≡ open_to file.now house bay acceptor round.old) }
 {
     match engine::open(file, house, bay, acceptor, round) {
-        Opening::Opened => 0,
-        Opening::Refused(e) => number(e),
+        Ok(()) => 0,
+        Err(e) => u32::from(e),
     }
 }
 
@@ -52,9 +52,9 @@ pub extern "C" fn hpaxos_deliver(round: &mut [u8], message: &[u8], reply: &mut [
     ensures { (result ≡ deliver_answer round.old message.now reply.old) × (round.new ≡ deliver_to round.old message.now reply.old) × (reply.new ≡ reply_to round.old message.now reply.old) }
 {
     match engine::deliver(round, message, reply) {
-        Outcome::Accepted => NO_REPLY,
-        Outcome::Replied(len) => REPLY + len as u32,
-        Outcome::Refused(e) => number(e),
+        Ok(None) => NO_REPLY,
+        Ok(Some(len)) => REPLY + len as u32,
+        Err(e) => u32::from(e),
     }
 }
 
@@ -73,13 +73,13 @@ pub extern "C" fn hpaxos_report(round: &[u8], learner: u8, out: &mut [u8]) -> u3
     ensures { (result ≡ report_answer round.now learner out.old) × (out.new ≡ report_to round.now learner out.old) }
 {
     if out.len() < REPORT_LEN {
-        return number(Refusal::Argument);
+        return u32::from(Refusal::Argument);
     }
     match engine::report(round, learner) {
-        Report::Undecided => put_page(out, UNDECIDED, 0, 0),
-        Report::Decided(x) => put_page(out, DECIDED, x, 0),
-        Report::Split(x, y) => put_page(out, SPLIT, x, y),
-        Report::Refused(e) => return number(e),
+        Ok(Report::Undecided) => put_page(out, UNDECIDED, 0, 0),
+        Ok(Report::Decided(x)) => put_page(out, DECIDED, x, 0),
+        Ok(Report::Split(x, y)) => put_page(out, SPLIT, x, y),
+        Err(e) => return u32::from(e),
     }
     0
 }

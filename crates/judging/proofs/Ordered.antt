@@ -3,9 +3,8 @@ use mathlib.Core.Path.{◌≡◌, refl, ap, ◌∙◌}
 use mathlib.Core.Bool.{Bool, true, false}
 use mathlib.Core.Option.{Option, none, some}
 use mathlib.Core.List.{List}
-use Prim.Native.Nat.{ℕ, ◌-◌}
+use Prim.Native.Nat.{ℕ}
 use native.Mathlib.Omega.{arith}
-use lib.ListN.{take, drop}
 use Rattle.base.specs.Tests.{pick}
 use Rattle.base.specs.declared.refusal.Refusal.{Refusal}
 use Rattle.base.specs.declared.refusal.Refusal.TheVariants.{OtherRound, Signer, Known, Reference, Previous}
@@ -14,13 +13,8 @@ use Rattle.protocol.specs.Ids.{Id}
 use Rattle.protocol.specs.Message.{Message}
 use Rattle.round.specs.Round.{Round}
 use Rattle.round.specs.Rows.{other_round, foreign, is_known_id, lacks, unchained, acceptor_rows, first_of}
-use Rattle.order.specs.declared.rows.Row.TheVariants.{Clear, Applies}
-use Rattle.order.specs.Inside.Rows.{row_of, head_row, chain_row}
+use Rattle.order.specs.Inside.Rows.{head_row, chain_row}
 use Rattle.judging.specs.Inside.Turning.{sound_row}
-
--- a part from the front
-pub front_part : (n : ℕ) (l : List ℕ) → take (n - 0) (drop 0 l) ≡ take n l
-front_part n l = let e : n - 0 ≡ n = omega arith in ap (λ (k : ℕ). take k l) e
 
 -- the first row that applies, of those of two parts
 abbrev pub or_else : Option Refusal → Option Refusal → Option Refusal
@@ -46,15 +40,6 @@ acceptor_row r i m previous ids tree =
     chain true b o = refl
     chain false true o = refl
     chain false false o = refl
-
--- a row that is told is the one that applies
-pub row_applies : (o : Option Refusal) (e : Refusal) → row_of o ≡ Applies e → o ≡ some e
-row_applies none e h = absurd (let z : ◌≡◌ {A = ℕ} 0 1 = cc in omega arith)
-row_applies (some x) e h = cc
-
-pub row_clear : (o : Option Refusal) → row_of o ≡ Clear → o ≡ none
-row_clear none h = refl
-row_clear (some x) h = absurd (let z : ◌≡◌ {A = ℕ} 0 1 = cc in omega arith)
 
 -- where neither applies, no reference lacks, and the previous message is named rightly
 pub chain_none : (a b : Bool) → chain_row a b ≡ none → (a ≡ false) × (b ≡ false)

@@ -5,7 +5,7 @@ use mathlib.Core.List.{List}
 use mathlib.Core.Path.{◌≡◌, subst, sym, ap, ◌∙◌}
 use lib.Dec.{T}
 use mathlib.Core.Bool.{Bool, not, true, false}
-use lib.ListN.{length}
+use Rattle.arrayvec.specs.ArrayVec.{array_vec_len}
 use native.Mathlib.Omega.{arith}
 use Rattle.round.specs.Round.{Round}
 use Rattle.round.specs.Limits.{max_held}
@@ -16,7 +16,7 @@ use Rattle.order.specs.Inside.Rows.{chain_row, form_row, head_row, row_of}
 use Rattle.round.specs.Rows.{lacks, unchained, is_known_id, vote_record, full, other_round, foreign, reference_ids, previous_id, message_of, first_of, acceptor_rows}
 use Rattle.base.specs.Tests.{all, ◌∈◌}
 use Rattle.round.proofs.Arriving.{all_known, chain_placed, referred}
-use Rattle.judging.proofs.Ordered.{chain_none, or_else, acceptor_row, row_applies, row_clear}
+use Rattle.judging.proofs.Ordered.{chain_none, or_else, acceptor_row}
 use Rattle.round.proofs.Marking.{PlacedId, previous_named, previous_fits}
 use Rattle.round.specs.Holdings.{named, graph_of}
 use Rattle.protocol.specs.Table.{says, Held}
@@ -26,7 +26,7 @@ use Rattle.round.specs.Handed.{place_fits}
 use Rattle.round.specs.Delivery.{previous_place}
 use Rattle.message.specs.declared.AcceptorMessage.{AcceptorMessage}
 use Rattle.message.specs.Reader.{reading}
-use Rattle.message.specs.declared.Reading.TheVariants.{OfAcceptor}
+use Rattle.message.specs.declared.Message.TheVariants.{OfAcceptor}
 use Rattle.admission.specs.Inside.Finding.{Listed, Bounded}
 use Rattle.message.proofs.Checks.{of_acceptor}
 use Rattle.round.proofs.Written.{counted}
@@ -39,8 +39,7 @@ use Rattle.protocol.specs.WellFormed.{formed1b, formed2a}
 use Rattle.meaning.specs.declared.Note.{Note}
 use Rattle.meaning.specs.Inside.Notes.{Judged}
 use Rattle.base.specs.declared.refusal.Refusal.{Refusal}
-use Rattle.order.specs.declared.rows.Row.{Row}
-use Rattle.order.specs.declared.rows.Row.TheVariants.{Applies, Clear}
+use Rattle.std.proofs.Common.{Result, Ok, Err}
 
 -- ---- what a message looks up, where rows 11 and 12 do not apply
 module _ (r : Round) (most : r.held ≤ max_held) (signer : ℕ) (previous : Option Id) (ids : List Id) (v : Vote) (found : Resolves r signer previous ids v) (clear : chain_row (lacks r ids) (unchained r signer ids previous) ≡ none) where
@@ -58,19 +57,18 @@ module _ (r : Round) (most : r.held ≤ max_held) (signer : ℕ) (previous : Opt
   voted i = λ k. says i (found.signed k) (back k) (found.listed k)
 
   -- it refers to held messages, and its previous message is none or held
-  pub referring : 1 ≤ v.count → v.count ≤ max_held → length v.places ≡ max_held → Referring r v
-  referring least few whole =
+  pub referring : 1 ≤ array_vec_len v.places → array_vec_len v.places ≤ max_held → Referring r v
+  referring least few =
       record {
         least = least;
         most = few;
-        whole = whole;
         earlier = λ j k. let (i, q, t) = referred r ids known j (subst (λ (l : List ℕ). j ∈ l) found.listed k) in (place_some r i j q).inside;
         placed = subst (λ (p : ℕ). T (place_fits r p)) (sym found.back) (previous_fits r previous chained);
         lowest = found.back ∙ ap (previous_place r) (sym back);
       }
 
 -- ---- an acceptor message that was read: its references stand in its bytes
-module _ (b : List ℕ) (m : AcceptorMessage) (reads : reading b ≡ OfAcceptor m) where
+module _ (b : List ℕ) (m : AcceptorMessage) (reads : reading b ≡ Ok (OfAcceptor m)) where
   pub listed : Listed b m
   listed = let long = (of_acceptor b m reads).0.long in record { most = (counted b m reads).1; within = omega arith }
 
@@ -116,16 +114,16 @@ module _ (r : Round) (i : Id) (b : List ℕ) (m : AcceptorMessage) where
   three : rows ≡ or_else heads (or_else chains sounds)
   three = acceptor_row r i m (previous_id b m) (reference_ids b m) (message_of r record_read)
 
-  module _ (y : Row) (told : y ≡ row_of heads) where
-    pub by_head : (e : Refusal) → y ≡ Applies e → rows ≡ some e
-    by_head e t = three ∙ ap (λ (o : Option Refusal). or_else o (or_else chains sounds)) (row_applies heads e (sym told ∙ t))
+  module _ (y : Result (Unit {0}) Refusal) (told : row_of y ≡ heads) where
+    pub by_head : (e : Refusal) → y ≡ Err e → rows ≡ some e
+    by_head e t = three ∙ ap (λ (o : Option Refusal). or_else o (or_else chains sounds)) (sym told ∙ ap row_of t)
 
-    module _ (clear : y ≡ Clear) (z : Row) (also : z ≡ row_of chains) where
+    module _ (u : Unit {0}) (clear : y ≡ Ok u) (z : Result Vote Refusal) (also : row_of z ≡ chains) where
       past : rows ≡ or_else chains sounds
-      past = three ∙ ap (λ (o : Option Refusal). or_else o (or_else chains sounds)) (row_clear heads (sym told ∙ clear))
+      past = three ∙ ap (λ (o : Option Refusal). or_else o (or_else chains sounds)) (sym told ∙ ap row_of clear)
 
-      pub by_chain : (e : Refusal) → z ≡ Applies e → rows ≡ some e
-      by_chain e t = past ∙ ap (λ (o : Option Refusal). or_else o sounds) (row_applies chains e (sym also ∙ t))
+      pub by_chain : (e : Refusal) → z ≡ Err e → rows ≡ some e
+      by_chain e t = past ∙ ap (λ (o : Option Refusal). or_else o sounds) (sym also ∙ ap row_of t)
 
-      pub by_rest : z ≡ Clear → rows ≡ sounds
-      by_rest t = past ∙ ap (λ (o : Option Refusal). or_else o sounds) (row_clear chains (sym also ∙ t))
+      pub by_rest : (v : Vote) → z ≡ Ok v → rows ≡ sounds
+      by_rest v t = past ∙ ap (λ (o : Option Refusal). or_else o sounds) (sym also ∙ ap row_of t)

@@ -1,9 +1,9 @@
 // Rows 8 to 16 of the table "When a call is turned down", for a message that was read. The round stands in the bytes s. What was found for the
 // message's ids is handed in, so that no id is looked up among the held ones twice.
-ghost use Rattle.std.specs.Prelude.{◌≡◌, ◌≤◌, length};
+ghost use Rattle.std.specs.Prelude.{◌≡◌, ◌≤◌, IfOk, length};
+ghost use Rattle.arrayvec.specs.ArrayVec.{array_vec_len};
 ghost use Rattle.protocol.specs.Ids.{Id};
 ghost use Rattle.meaning.specs.Inside.Notes.{Judged};
-ghost use Rattle.round.specs.Limits.{max_held};
 ghost use Rattle.round.specs.Holdings.{graph_of, place_of};
 ghost use Rattle.round.specs.Rows.{other_round, foreign, is_known_id, reference_ids, previous_id, lacks, unchained, message_of, full};
 ghost use Rattle.roundbytes.specs.Layout.{round_len, round_in};
@@ -12,16 +12,15 @@ ghost use Rattle.admission.specs.Inside.Votes.{record_of, Resolves};
 ghost use Rattle.judging.specs.Inside.Standing.{AtHand};
 ghost use Rattle.judging.specs.Inside.Referring.{Referring};
 ghost use Rattle.order.specs.Inside.Rows.{row_of, head_row, chain_row};
-ghost use Rattle.order.specs.declared.rows.Row.TheVariants.{Clear};
 ghost use Rattle.judging.specs.Inside.Turning.{sound_row};
 
-use admission::lookup::Found;
 use admission::rows::{Vote, is_awaited, is_known, previous_of, resolve};
+use base::refusal::Refusal;
 use derive::new::judge;
-use graph::Mask;
+use graph::Graph;
 use meaning::Note;
 use message::AcceptorMessage;
-use order::rows::Row;
+use notes::Notes;
 use order::{is_foreign, is_full, is_other};
 use roundbytes::readers::{acceptors_of, bay_of, held_of, house_of, own_of};
 
@@ -36,10 +35,10 @@ pub fn of_another(s: &[u8], house: u16, bay: u16) -> bool
 }
 
 // Rows 8 to 10 of an acceptor message, by what was found for its id.
-pub fn head_row(s: &[u8], m: AcceptorMessage, found: Found) -> Row
+pub fn head_row(s: &[u8], m: AcceptorMessage, found: Option<usize>) -> Result<(), Refusal>
     requires { Bounded s.now × Inside (round_in s.now) found }
     ensures { (i : Id) → place_found found ≡ place_of (round_in s.now) i
-        → result ≡ row_of (head_row (other_round (round_in s.now) m.house m.bay) (foreign (round_in s.now) m.signer) (is_known_id (round_in s.now) i)) }
+        → row_of result ≡ head_row (other_round (round_in s.now) m.house m.bay) (foreign (round_in s.now) m.signer) (is_known_id (round_in s.now) i) }
 {
     let other = of_another(s, m.house, m.bay);
     let foreign = is_foreign(acceptors_of(s), m.signer);
@@ -47,38 +46,25 @@ pub fn head_row(s: &[u8], m: AcceptorMessage, found: Found) -> Row
     order::rows::head_row(other, foreign, known)
 }
 
-// What rows 11 and 12 say; where neither applies, what the message's ids name.
-#[derive(Clone, Copy)]
-pub struct Chained {
-    pub row: Row,
-    pub vote: Vote,
-}
-
-// Rows 11 and 12 of an acceptor message that was read from these bytes.
-pub fn chain_row<'a>(s: &'a [u8], bytes: &'a [u8], m: AcceptorMessage) -> Chained
+// Rows 11 and 12 of an acceptor message that was read from these bytes; where neither applies, what the message's ids name.
+pub fn chain_row(s: &[u8], bytes: &[u8], m: AcceptorMessage) -> Result<Vote, Refusal>
     requires { Bounded s.now × Listed bytes.now m }
-    ensures ruled { result.row ≡ row_of (chain_row (lacks (round_in s.now) (reference_ids bytes.now m)) (unchained (round_in s.now) m.signer (reference_ids bytes.now m) (previous_id bytes.now m))) }
-    ensures resolved { result.row ≡ Clear → Resolves (round_in s.now) m.signer (previous_id bytes.now m) (reference_ids bytes.now m) result.vote }
-    ensures whole { (result.vote.count ≡ m.count) × (length result.vote.places ≡ max_held) }
+    ensures ruled { row_of result ≡ chain_row (lacks (round_in s.now) (reference_ids bytes.now m)) (unchained (round_in s.now) m.signer (reference_ids bytes.now m) (previous_id bytes.now m)) }
+    ensures resolved { IfOk result (λ vote. Resolves (round_in s.now) m.signer (previous_id bytes.now m) (reference_ids bytes.now m) vote) }
+    ensures counted { IfOk result (λ vote. array_vec_len vote.places ≡ m.count) }
 {
     let references = resolve(s, bytes, m);
-    let lacking = references.lacking;
-    let places = references.places;
-    let previous = previous_of(s, bytes, m);
-    let row = order::rows::chain_row(lacking, previous.unchained);
-    Chained {
-        row,
-        vote: Vote {
-            signer: m.signer,
-            previous: previous.place,
-            count: m.count,
-            places,
-        },
-    }
+    let back = previous_of(s, bytes, m);
+    let (places, previous) = order::rows::chain_row(references, back)?;
+    Ok(Vote {
+        signer: m.signer,
+        previous,
+        places,
+    })
 }
 
 // Row 16, by what was found for the message's id.
-pub fn lacks_room(s: &[u8], found: Found) -> bool
+pub fn lacks_room(s: &[u8], found: Option<usize>) -> bool
     requires { Bounded s.now × Inside (round_in s.now) found }
     ensures { (i : Id) → place_found found ≡ place_of (round_in s.now) i → result ≡ full (round_in s.now) i }
 {
@@ -87,37 +73,26 @@ pub fn lacks_room(s: &[u8], found: Found) -> bool
 }
 
 // An acceptor message that the round would hold as this vote, judged by what it holds.
-pub fn judge_vote<'a>(
-    s: &'a [u8],
-    masks: &'a [Mask],
-    words: &'a [u64],
-    octets: &'a [u8],
-    id: &'a [u8],
-    vote: Vote,
-) -> Note
-    requires { AtHand s.now masks.now words.now octets.now × Referring (round_in s.now) vote }
-    ensures { Judged (graph_of (round_in s.now)) (message_of (round_in s.now) (record_of (round_in s.now) id.now vote)) result }
+pub fn judge_vote(s: &[u8], graph: &Graph, notes: &Notes, id: &[u8], vote: &Vote) -> Note
+    requires { AtHand s.now graph.now notes.now × Referring (round_in s.now) vote.now }
+    ensures { Judged (graph_of (round_in s.now)) (message_of (round_in s.now) (record_of (round_in s.now) id.now vote.now)) result }
 {
-    let count = vote.count;
-    let previous = vote.previous;
-    let places = &vote.places[..];
-    judge(s, masks, words, octets, id, previous, &places[0..count])
+    judge(s, graph, notes, id, vote.previous, &vote.places)
 }
 
 // Rows 14 to 16 of such a message, by what was found for its id.
-pub fn sound_row<'a>(
-    s: &'a [u8],
-    masks: &'a [Mask],
-    words: &'a [u64],
-    octets: &'a [u8],
-    id: &'a [u8],
-    vote: Vote,
-    found: Found,
-) -> Row
-    requires { AtHand s.now masks.now words.now octets.now × (Referring (round_in s.now) vote × (place_found found ≡ place_of (round_in s.now) id.now)) }
-    ensures { result ≡ row_of (sound_row (round_in s.now) id.now (message_of (round_in s.now) (record_of (round_in s.now) id.now vote))) }
+pub fn sound_row(
+    s: &[u8],
+    graph: &Graph,
+    notes: &Notes,
+    id: &[u8],
+    vote: &Vote,
+    found: Option<usize>,
+) -> Result<(), Refusal>
+    requires { AtHand s.now graph.now notes.now × (Referring (round_in s.now) vote.now × (place_found found ≡ place_of (round_in s.now) id.now)) }
+    ensures { row_of result ≡ sound_row (round_in s.now) id.now (message_of (round_in s.now) (record_of (round_in s.now) id.now vote.now)) }
 {
-    let note = judge_vote(s, masks, words, octets, id, vote);
+    let note = judge_vote(s, graph, notes, id, vote);
     let lacks = lacks_room(s, found);
     order::rows::form_row(note.formed1b, note.formed2a, lacks)
 }

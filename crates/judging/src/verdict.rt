@@ -8,17 +8,16 @@ ghost use Rattle.judging.specs.Inside.Standing.{Passes};
 
 use deciding::report::report_for;
 use derive::pass::work_out;
-use graph::Mask;
-use notes::{OCTETS, WORDS};
+use graph::Graph;
+use notes::Notes;
 use round::Report;
 
 // The report for a learner of the graph.
-pub fn verdict_for<'a>(s: &'a [u8], masks: &'a [Mask], learner: usize) -> Report
-    requires { Passes s.now × ((masks.now ≡ (round_in s.now).graph.masks) × (learner < (round_in s.now).graph.learners)) }
+pub fn verdict_for(s: &[u8], graph: &Graph, learner: usize) -> Report
+    requires { Passes s.now × ((graph.now ≡ (round_in s.now).graph) × (learner < (round_in s.now).graph.learners)) }
     ensures { result ≡ told (report (graph_of (round_in s.now)) (known_messages (round_in s.now)) learner) }
 {
-    let mut words = [0u64; WORDS];
-    let mut octets = [0u8; OCTETS];
-    work_out(s, masks, &mut words, &mut octets);
-    report_for(s, masks, &words, &octets, learner)
+    let mut notes = Notes::new();
+    work_out(s, graph, &mut notes);
+    report_for(s, graph, &notes, learner)
 }

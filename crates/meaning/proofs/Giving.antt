@@ -1,5 +1,5 @@
 -- What row 17 leaves of a round is what the pass asks of it.
-use mathlib.Core.Path.{◌≡◌, subst}
+use mathlib.Core.Path.{◌≡◌, sym, subst}
 use mathlib.Core.Logic.{◌⊎◌, inl, inr}
 use mathlib.Core.Bool.{false, ◌&&◌}
 use mathlib.Core.List.{List}
@@ -9,13 +9,14 @@ use lib.Dec.{T, ltb, leb, ltb→lt}
 use lib.ListN.{length, get_or}
 use Rattle.base.specs.Tests.{◌∈◌, all}
 use Rattle.base.proofs.Tests.{and_r, or_out, all_out}
+use Rattle.graph.specs.declared.Graph.{Graph}
+use Rattle.graph.specs.Limits.{mask_bits}
 use Rattle.round.specs.Round.{Round}
 use Rattle.round.specs.Holdings.{is_proposal_at, references_at}
 use Rattle.round.specs.Handed.{refers_back, fits}
 use Rattle.round.proofs.Fitting.{Fitting, fits_out, place_cases}
 use Rattle.round.proofs.GraphFits.{acceptors_fit, learners_fit}
 use Rattle.roundbytes.specs.Layout.{round_len, round_in}
-use Rattle.notes.specs.Inside.Layout.{Lent}
 use Rattle.meaning.specs.Inside.Records.{Fit}
 use Rattle.meaning.specs.Inside.Lent.{Given}
 
@@ -39,12 +40,16 @@ module _ (r : Round) where
         back = λ p l e j m. back_in p (f.back p l) e j m;
       }
 
-pub given_of : (s masks words octets : List ℕ) → round_len ≤ length s → masks ≡ (round_in s).graph.masks → T (fits (round_in s)) → Lent words octets → Given s masks words octets
-given_of s masks words octets long same passed lent =
+pub given_of : (s : List ℕ) (graph : Graph) → round_len ≤ length s → graph ≡ (round_in s).graph → T (fits (round_in s)) → Given s graph
+given_of s graph long same passed =
     let f = fits_out (round_in s) passed in
     record {
-      graphed = record { long = long; masks' = same; acceptors = let a = acceptors_fit (round_in s).graph f.graph in omega arith };
+      graphed =
+          record {
+            long = long;
+            same = same;
+            acceptors = subst (λ (g : Graph). g.acceptors ≤ mask_bits) (sym same) (let a = acceptors_fit (round_in s).graph f.graph in omega arith);
+          };
       learners = learners_fit (round_in s).graph f.graph;
       fit = fit_of (round_in s) f;
-      lent = lent;
     }

@@ -1,7 +1,7 @@
 -- What a message put behind the held ones reaches, its ballot, and whether it is well-formed as a 1b: from the places that those before it reach, and their
 -- ballots. t holds the places before it, u the message besides, at place n.
 use mathlib.Core.Path.{◌≡◌, refl, sym, ap, ap₂, subst, ◌∙◌}
-use mathlib.Core.Bool.{Bool, true, false, not, ◌&&◌, ◌||◌}
+use mathlib.Core.Bool.{Bool, true, false, not, ◌&&◌, ◌||◌, not-not}
 use mathlib.Core.Option.{Option}
 use mathlib.Core.List.Memᴰ
 use mathlib.Core.List.{List, [], ◌∷◌, ◌++◌}
@@ -38,14 +38,6 @@ denied true false true true = refl
 denied true false true false = refl
 denied true false false o = refl
 denied false s b o = refl
-
-not_not : (a : Bool) → not (not a) ≡ a
-not_not true = refl
-not_not false = refl
-
-pub is_true : (a : Bool) → T a → a ≡ true
-is_true true h = refl
-is_true false h = absurd h
 
 -- what the places of t reach, and their ballots: the part of the notes that this file asks
 pub record Reached (t : Table) (rn : Round) (wn : WordNotes) : Type 0 where
@@ -168,5 +160,5 @@ module _ (t : Table) (rn : Round) (wn : WordNotes) (ps : List ℕ) (rd : Reached
           → Judged G (node_by (tree t) new) (record { formed1b = not crowded; formed2a = true })
       first_judged crowded hc one =
           judged G (not crowded) true
-          (ap not (hc ∙ crowded_told) ∙ not_not (all alone (below n)) ∙ sym (formed1b_at_lem u ord n n (omega arith) ∙ ap (λ (z : Bool). not z || all alone (below n)) (first_told ∙ one)))
+          (ap not (hc ∙ crowded_told) ∙ not-not (all alone (below n)) ∙ sym (formed1b_at_lem u ord n n (omega arith) ∙ ap (λ (z : Bool). not z || all alone (below n)) (first_told ∙ one)))
           (sym (formed2a_at_lem u G n ∙ ap (λ (z : Bool). not z || (any (lrns_at u G n) (below G.learners) && not (repeats_at u G n))) (second_told ∙ ap not one)))

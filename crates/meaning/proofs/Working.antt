@@ -34,11 +34,12 @@ use Rattle.places.proofs.Membership.{has_zero}
 use Rattle.places.proofs.Loops.{any_at}
 use Rattle.voting.proofs.Burying.{buried_by_peaks}
 use Rattle.meaning.proofs.Reaching as reaching
-use Rattle.meaning.proofs.Reaching.{is_true, Reached, reached_of}
+use Rattle.meaning.proofs.Reaching.{Reached, reached_of}
 use Rattle.round.specs.Round.{Round}
 use Rattle.round.specs.Holdings.{is_proposal_at}
 use Rattle.notes.specs.Inside.Layout.{WordNotes, ByteNotes, first_form, second_form}
 use Rattle.round.specs.Limits.{max_held}
+use Rattle.round.proofs.Joined.{is_true}
 use Rattle.graph.specs.Limits.{mask_bits}
 
 -- ---- forks of records

@@ -9,13 +9,10 @@ ghost use Rattle.meaning.specs.Inside.Records.{table_to};
 ghost use Rattle.meaning.specs.Inside.Notes.{AllNoted, Told};
 ghost use Rattle.meaning.specs.Inside.Lent.{FiledTo};
 
-use base::{size, value};
-use graph::Mask;
-use notes::index::walks_for;
-use notes::readers::name_at;
-use notes::{FIRST, SECOND, Worked};
-use places::Places;
-use places::sets::{meet, with_acceptor};
+use base::value;
+use graph::Graph;
+use notes::{FIRST, Notes, SECOND, Worked};
+use places::sets::with_acceptor;
 use round::MAX_HELD;
 use roundbytes::REFERENCES_AT;
 use roundbytes::readers::{count_at, learners_of, previous_at, signer_at};
@@ -38,38 +35,29 @@ fn form_of(offered: bool) -> u8
 }
 
 // The acceptor message at place p. Its own place is left out of those that it reaches.
-pub fn step<'a>(
-    s: &'a [u8],
-    masks: &'a [Mask],
-    words: &'a [u64],
-    octets: &'a [u8],
-    p: usize,
-) -> Worked
-    requires { FiledTo s.now masks.now words.now octets.now p × ((p < (round_in s.now).held) × (is_proposal_at (round_in s.now) p ≡ false)) }
-    ensures { Named (round_in s.now) (round_in s.now).held (byte_notes octets.now) → AllNoted (graph_of (round_in s.now)) (table_to (round_in s.now) p) (round_in s.now) (word_notes words.now) (byte_notes octets.now) → Told (graph_of (round_in s.now)) (table_to (round_in s.now) (suc p)) p result }
+pub fn step(s: &[u8], graph: &Graph, notes: &Notes, p: usize) -> Worked
+    requires { FiledTo s.now graph.now notes.now p × ((p < (round_in s.now).held) × (is_proposal_at (round_in s.now) p ≡ false)) }
+    ensures { Named (round_in s.now) (round_in s.now).held (byte_notes notes.now.octets) → AllNoted (graph_of (round_in s.now)) (table_to (round_in s.now) p) (round_in s.now) (word_notes notes.now.words) (byte_notes notes.now.octets) → Told (graph_of (round_in s.now)) (table_to (round_in s.now) (suc p)) p result }
 {
     let from = REFERENCES_AT + MAX_HELD * p;
-    let to = from + size(count_at(s, p));
-    let u = under(s, words, &s[from..to]);
-    let set = Places {
-        low: u.low,
-        high: u.high,
-    };
+    let to = from + usize::from(count_at(s, p));
+    let u = under(s, notes, &s[from..to]);
+    let set = u.set;
     let signer = signer_at(s, p);
-    let name = name_at(octets, p);
-    let link = name_at(octets, size(previous_at(s, p)));
-    let walks = walks_for(words, set, u.ballot, signer, link);
-    let forks = forking(s, octets, p, signer, name, link, walks.forks);
-    let others = caught_in(s, words, p, set, walks.caught);
-    let caught = with_acceptor(others, signer, meet(u.low, u.high, forks.low, forks.high));
+    let name = notes.name_at(p);
+    let link = notes.name_at(usize::from(previous_at(s, p)));
+    let walks = notes.walks_for(set, u.ballot, signer, link);
+    let forks = forking(s, notes, p, signer, name, link, walks.forks);
+    let others = caught_in(s, notes, p, set, walks.caught);
+    let caught = with_acceptor(others, signer, set.meets(forks));
     let l = learners_of(s);
     let firsts = count_if(u.offered, l);
     let v = value(u.ballot);
-    let against = opposing(s, words, octets, p, firsts, set, signer, v, walks);
-    let free = fresh_for(s, masks, l, firsts, caught, against);
+    let against = opposing(s, notes, p, firsts, set, signer, v, walks);
+    let free = fresh_for(graph, l, firsts, caught, against);
     let seconds = count_if(!u.offered, l);
     let backers = walks.backers;
-    let learned = learners_for(s, masks, words, octets, seconds, p, set, u.ballot, backers);
+    let learned = learners_for(s, graph, notes, seconds, p, set, u.ballot, backers);
     Worked {
         beneath: set,
         forks,

@@ -7,19 +7,19 @@ use Prim.Native.Nat.{ℕ, ◌+◌, ◌*◌, ◌-◌, ◌≤◌, ◌<◌}
 use native.Mathlib.Omega.{arith}
 use lib.Dec.{eqb, ltb, leb}
 use lib.ListN.{length, get_or}
-use borrow.Author.Tests.{lt-ltb, le-ltb, le-leb, eq-eqb, ltb-true, leb-true, eqb-true, eqb-false}
+use borrow.Author.Tests.{lt-ltb, le-leb, eq-eqb, ltb-true, leb-true, eqb-true, eqb-false}
+use Rattle.std.proofs.Common.{Result, Ok, Err}
 use Rattle.base.specs.Tests.{pick}
 use Rattle.base.specs.Bytes.{be}
 use Rattle.base.specs.declared.refusal.Refusal.{Refusal}
 use Rattle.base.specs.declared.refusal.Refusal.TheVariants.{Length, Version, Range, Order, Argument}
 use Rattle.message.specs.declared.Proposal.{Proposal}
 use Rattle.message.specs.declared.AcceptorMessage.{AcceptorMessage}
-use Rattle.message.specs.declared.Reading.{Reading}
-use Rattle.message.specs.declared.Reading.TheVariants.{OfProposer, OfAcceptor, Refused}
-use Rattle.message.specs.declared.Place.TheVariants.{At, NoPlace}
+use Rattle.message.specs.declared.Message.{Message}
+use Rattle.message.specs.declared.Message.TheVariants.{OfProposer, OfAcceptor}
 use Rattle.message.specs.Layout.{marker, count_at, acceptor_len, references_at}
 use Rattle.message.specs.Order.{ascending}
-use Rattle.message.specs.Reader.{unless, proposal_in, acceptor_in, read_proposal, read_counted, read_marked, read_acceptor, read_kind, reading, nth_of, reference_of, reference_in}
+use Rattle.message.specs.Reader.{unless, proposal_in, acceptor_in, read_proposal, read_counted, read_marked, read_acceptor, read_kind, reading, nth_of, reference_of}
 use Rattle.message.specs.Outcomes.{OfKind, Marked, Counted, IsProposal, IsAcceptor}
 
 -- ---- what is left
@@ -30,7 +30,7 @@ to_kind s l h v =
     simp (le-leb 2 (length s) (omega arith), eq-eqb (length s) (2 + be 2 s 0) l, lt-ltb 2 (length s) (omega arith), eq-eqb (get_or s 2 0) 1 v, lt-ltb 3 (length s) h)
 
 -- of kind 1: to the end
-pub to_proposal : (s : List ℕ) → length s ≡ 17 → read_proposal s ≡ OfProposer (proposal_in s)
+pub to_proposal : (s : List ℕ) → length s ≡ 17 → read_proposal s ≡ Ok (OfProposer (proposal_in s))
 to_proposal s l = simp (eq-eqb (length s) 17 l)
 
 -- of kind 2: up to the marker
@@ -41,23 +41,23 @@ to_marker s h m b e =
 
 -- and from the count to the end
 pub to_acceptor : (s : List ℕ) (b : Bool) (n : ℕ) → 0 < n → n ≤ 128 → length s ≡ acceptor_len b n → ascending (n - 1) s (references_at b) ≡ true
-    → read_counted s b n ≡ OfAcceptor (acceptor_in s b n)
+    → read_counted s b n ≡ Ok (OfAcceptor (acceptor_in s b n))
 to_acceptor s b n h m l o = simp (lt-ltb 0 n h, le-leb n 128 m, eq-eqb (length s) (acceptor_len b n) l, o)
 
 -- ---- what has passed
 
 -- the answers that give fields
-abbrev Fields : Reading → Type 0
-Fields (OfProposer p) = Unit {0}
-Fields (OfAcceptor m) = Unit {0}
-Fields (Refused r) = ⊥
+abbrev Fields : Result Message Refusal → Type 0
+Fields (Ok (OfProposer p)) = Unit {0}
+Fields (Ok (OfAcceptor m)) = Unit {0}
+Fields (Err r) = ⊥
 
-passed : (t : Bool) (r : Refusal) (x y : Reading) → Fields y → unless t r x ≡ y → (t ≡ true) × (x ≡ y)
+passed : (t : Bool) (r : Refusal) (x y : Result Message Refusal) → Fields y → unless t r x ≡ y → (t ≡ true) × (x ≡ y)
 passed true r x y h e = (refl, e)
 passed false r x y h e = absurd (subst Fields (sym e) h)
 
 -- the kind was reached
-of_kind : (s : List ℕ) (y : Reading) → Fields y → reading s ≡ y → OfKind (get_or s 3 0) s × (read_kind s (get_or s 3 0) ≡ y)
+of_kind : (s : List ℕ) (y : Result Message Refusal) → Fields y → reading s ≡ y → OfKind (get_or s 3 0) s × (read_kind s (get_or s 3 0) ≡ y)
 of_kind s y f e =
     let k = read_kind s (get_or s 3 0) in
     let x₄ = unless (ltb 3 (length s)) Length k in
@@ -90,12 +90,12 @@ marker_test true = (refl, omega arith)
 marker_test false = (refl, omega arith)
 
 -- the end of an acceptor message was reached
-to_end : (s : List ℕ) (y : Reading) → Fields y → OfKind 2 s → read_acceptor s ≡ y → (b : Bool) × (n : ℕ) × IsAcceptor b n s × (OfAcceptor (acceptor_in s b n) ≡ y)
+to_end : (s : List ℕ) (y : Result Message Refusal) → Fields y → OfKind 2 s → read_acceptor s ≡ y → (b : Bool) × (n : ℕ) × IsAcceptor b n s × (Ok (OfAcceptor (acceptor_in s b n)) ≡ y)
 to_end s y f k e =
     let m = get_or s 9 0 in
     let b = eqb m 1 in
     let n = get_or s (count_at b) 0 in
-    let x₆ = OfAcceptor (acceptor_in s b n) in
+    let x₆ = Ok (OfAcceptor (acceptor_in s b n)) in
     let x₅ = unless (ascending (n - 1) s (references_at b)) Order x₆ in
     let x₄ = unless (eqb (length s) (acceptor_len b n)) Length x₅ in
     let x₃ = unless (leb n 128) Range x₄ in
@@ -113,17 +113,17 @@ to_end s y f k e =
     (b, n, record { counted = counted; long = eqb-true (length s) (acceptor_len b n) p₆.0; ordered = p₇.0 }, p₇.1)
 
 -- a message was read: a proposal or an acceptor message
-read_whole : (s : List ℕ) (y : Reading) → Fields y → reading s ≡ y
-    → (IsProposal s × (OfProposer (proposal_in s) ≡ y)) ⊎ ((b : Bool) × (n : ℕ) × IsAcceptor b n s × (OfAcceptor (acceptor_in s b n) ≡ y))
+read_whole : (s : List ℕ) (y : Result Message Refusal) → Fields y → reading s ≡ y
+    → (IsProposal s × (Ok (OfProposer (proposal_in s)) ≡ y)) ⊎ ((b : Bool) × (n : ℕ) × IsAcceptor b n s × (Ok (OfAcceptor (acceptor_in s b n)) ≡ y))
 read_whole s y f e =
     let k = of_kind s y f e in
     go (eqb (get_or s 3 0) 1) refl k.0 k.1
   where
     go : (t : Bool) → eqb (get_or s 3 0) 1 ≡ t → OfKind (get_or s 3 0) s → read_kind s (get_or s 3 0) ≡ y
-        → (IsProposal s × (OfProposer (proposal_in s) ≡ y)) ⊎ ((b : Bool) × (n : ℕ) × IsAcceptor b n s × (OfAcceptor (acceptor_in s b n) ≡ y))
+        → (IsProposal s × (Ok (OfProposer (proposal_in s)) ≡ y)) ⊎ ((b : Bool) × (n : ℕ) × IsAcceptor b n s × (Ok (OfAcceptor (acceptor_in s b n)) ≡ y))
     go true q h d =
         let r : read_proposal s ≡ y = sym (simp q) ∙ d in
-        let l = passed (eqb (length s) 17) Length (OfProposer (proposal_in s)) y f r in
+        let l = passed (eqb (length s) 17) Length (Ok (OfProposer (proposal_in s))) y f r in
         inl (record { kind = subst (λ (x : ℕ). OfKind x s) (eqb-true (get_or s 3 0) 1 q) h; long = eqb-true (length s) 17 l.0 }, l.1)
     go false q h d =
         let r : unless (eqb (get_or s 3 0) 2) Range (read_acceptor s) ≡ y = sym (simp q) ∙ d in
@@ -131,18 +131,18 @@ read_whole s y f e =
         inr (to_end s y f (subst (λ (x : ℕ). OfKind x s) (eqb-true (get_or s 3 0) 2 l.0) h) l.1)
 
 -- a proposal was read
-pub of_proposer : (s : List ℕ) (p : Proposal) → reading s ≡ OfProposer p → IsProposal s × (p ≡ proposal_in s)
-of_proposer s p e = go (read_whole s (OfProposer p) tt e)
+pub of_proposer : (s : List ℕ) (p : Proposal) → reading s ≡ Ok (OfProposer p) → IsProposal s × (p ≡ proposal_in s)
+of_proposer s p e = go (read_whole s (Ok (OfProposer p)) tt e)
   where
-    go : (IsProposal s × (OfProposer (proposal_in s) ≡ OfProposer p)) ⊎ ((b : Bool) × (n : ℕ) × IsAcceptor b n s × (OfAcceptor (acceptor_in s b n) ≡ OfProposer p)) → IsProposal s × (p ≡ proposal_in s)
+    go : (IsProposal s × ◌≡◌ {A = Result Message Refusal} (Ok (OfProposer (proposal_in s))) (Ok (OfProposer p))) ⊎ ((b : Bool) × (n : ℕ) × IsAcceptor b n s × ◌≡◌ {A = Result Message Refusal} (Ok (OfAcceptor (acceptor_in s b n))) (Ok (OfProposer p))) → IsProposal s × (p ≡ proposal_in s)
     go (inl (h, q)) = (h, cc)
     go (inr (b, n, h, q)) = let z : ◌≡◌ {A = ℕ} 0 1 = cc in absurd (omega arith)
 
 -- an acceptor message was read
-pub of_acceptor : (s : List ℕ) (m : AcceptorMessage) → reading s ≡ OfAcceptor m → IsAcceptor m.previous m.count s × (m ≡ acceptor_in s m.previous m.count)
-of_acceptor s m e = go (read_whole s (OfAcceptor m) tt e)
+pub of_acceptor : (s : List ℕ) (m : AcceptorMessage) → reading s ≡ Ok (OfAcceptor m) → IsAcceptor m.previous m.count s × (m ≡ acceptor_in s m.previous m.count)
+of_acceptor s m e = go (read_whole s (Ok (OfAcceptor m)) tt e)
   where
-    go : (IsProposal s × (OfProposer (proposal_in s) ≡ OfAcceptor m)) ⊎ ((b : Bool) × (n : ℕ) × IsAcceptor b n s × (OfAcceptor (acceptor_in s b n) ≡ OfAcceptor m))
+    go : (IsProposal s × ◌≡◌ {A = Result Message Refusal} (Ok (OfProposer (proposal_in s))) (Ok (OfAcceptor m))) ⊎ ((b : Bool) × (n : ℕ) × IsAcceptor b n s × ◌≡◌ {A = Result Message Refusal} (Ok (OfAcceptor (acceptor_in s b n))) (Ok (OfAcceptor m)))
         → IsAcceptor m.previous m.count s × (m ≡ acceptor_in s m.previous m.count)
     go (inl (h, q)) = let z : ◌≡◌ {A = ℕ} 0 1 = cc in absurd (omega arith)
     go (inr (b, n, h, q)) =
@@ -150,40 +150,19 @@ of_acceptor s m e = go (read_whole s (OfAcceptor m) tt e)
         (subst (λ (x : AcceptorMessage). IsAcceptor x.previous x.count s) w h, subst (λ (x : AcceptorMessage). x ≡ acceptor_in s x.previous x.count) w refl)
 
 -- the ids that end an acceptor message are its references
-pub nth_of_acceptor : (s : List ℕ) (m : AcceptorMessage) (n : ℕ) → reading s ≡ OfAcceptor m → nth_of s m.count n ≡ reference_of (OfAcceptor m) n
+pub nth_of_acceptor : (s : List ℕ) (m : AcceptorMessage) (n : ℕ) → reading s ≡ Ok (OfAcceptor m) → nth_of s m.count n ≡ reference_of (Ok (OfAcceptor m)) n
 nth_of_acceptor s m n e =
     let l = long in
-    let p : nth_of s m.count n ≡ pick (ltb n m.count) (At (length s - 32 * (m.count - n))) (NoPlace Argument) = simp (le-leb (32 * m.count) (length s) (omega arith)) in
+    let p : nth_of s m.count n ≡ pick (ltb n m.count) (Ok (length s - 32 * (m.count - n))) (Err Argument) = simp (le-leb (32 * m.count) (length s) (omega arith)) in
     p ∙ go (ltb n m.count) refl
   where
     long : length s ≡ references_at m.previous + 32 * m.count
     long = (of_acceptor s m e).0.long
 
-    go : (t : Bool) → ltb n m.count ≡ t → pick t (At (length s - 32 * (m.count - n))) (NoPlace Argument) ≡ pick t (At (references_at m.previous + 32 * n)) (NoPlace Argument)
+    go : (t : Bool) → ltb n m.count ≡ t → pick t (Ok (length s - 32 * (m.count - n))) (Err Argument) ≡ pick t (Ok (references_at m.previous + 32 * n)) (Err Argument)
     go true q =
         let h = ltb-true n m.count q in
         let l = long in
         let k : length s - 32 * (m.count - n) ≡ references_at m.previous + 32 * n = omega arith in
-        ap At k
+        ap (λ (x : ℕ). Ok x) k
     go false q = refl
-
--- where there are none, there is no n-th
-pub nth_of_none : (s : List ℕ) (n : ℕ) → nth_of s 0 n ≡ NoPlace Argument
-nth_of_none s n = simp (le-leb 0 (length s) (omega arith), le-ltb n 0 (omega arith))
-
--- a reference's place is inside the message
-pub reference_within : (s : List ℕ) (n at : ℕ) → reference_in s n ≡ At at → at + 32 ≤ length s
-reference_within s n at e = go (reading s) refl e
-  where
-    here : (m : AcceptorMessage) (t : Bool) → ltb n m.count ≡ t → reading s ≡ OfAcceptor m → pick t (At (references_at m.previous + 32 * n)) (NoPlace Argument) ≡ At at → at + 32 ≤ length s
-    here m true q d e =
-        let l = (of_acceptor s m d).0.long in
-        let h = ltb-true n m.count q in
-        let w : references_at m.previous + 32 * n ≡ at = cc in
-        omega arith
-    here m false q d e = let z : ◌≡◌ {A = ℕ} 0 1 = cc in absurd (omega arith)
-
-    go : (r : Reading) → reading s ≡ r → reference_of r n ≡ At at → at + 32 ≤ length s
-    go (OfProposer p) d e = let z : ◌≡◌ {A = ℕ} 0 1 = cc in absurd (omega arith)
-    go (OfAcceptor m) d e = here m (ltb n m.count) refl d e
-    go (Refused r) d e = let z : ◌≡◌ {A = ℕ} 0 1 = cc in absurd (omega arith)

@@ -1,11 +1,13 @@
 -- Lengths of what is written.
 use mathlib.Core.Path.{◌≡◌, refl, ◌∙◌}
+use mathlib.Core.Bool.{Bool, true, false}
 use mathlib.Core.Logic.{◌⊎◌, inl, inr}
 use mathlib.Core.List.{List, [], ◌∷◌, ◌++◌}
 use Prim.Native.Nat.{ℕ, ◌*◌}
 use native.Mathlib.Omega.{arith}
 use lib.ListN.{length, length-append}
 use borrow.Author.Tests.{eq-eqb, ne_eqb}
+use Rattle.std.specs.Int.{from_bool}
 use Rattle.base.specs.Tests.{pick}
 use Rattle.base.specs.Bytes.{bytes}
 use Rattle.message.specs.declared.Proposal.{Proposal}
@@ -19,6 +21,11 @@ head_length len kind house bay signer = refl
 pub proposal_length_lem : (p : Proposal) → length (proposal_bytes p) ≡ 17
 unfolding bytes
 proposal_length_lem p = refl
+
+-- the marker's byte
+pub marker_byte : (b : Bool) → from_bool b ≡ marker b
+marker_byte true = refl
+marker_byte false = refl
 
 -- a previous id that is none or whole takes the bytes that its marker says
 pub previous_span : (previous : List ℕ) → (length previous ≡ 0) ⊎ (length previous ≡ 32) → length previous ≡ pick (has_previous previous) 32 0

@@ -7,11 +7,13 @@ use native.Mathlib.Omega.{arith}
 use lib.Dec.{eqb, ltb, leb}
 use lib.ListN.{length, get_or}
 use borrow.Author.Tests.{lt-ltb, le-ltb, le-leb, lt-leb, eq-eqb, ne_eqb, ltb-true, ltb-false, leb-true, leb-false, eqb-true, eqb-false}
+use Rattle.std.proofs.Common.{Result, Ok, Err}
 use Rattle.base.specs.Tests.{pick}
 use Rattle.base.specs.Bytes.{be}
+use Rattle.base.specs.declared.refusal.Refusal.{Refusal}
 use Rattle.base.specs.declared.refusal.Refusal.TheVariants.{Length, Version, Range, Order}
-use Rattle.message.specs.declared.Reading.{Reading}
-use Rattle.message.specs.declared.Reading.TheVariants.{OfProposer, OfAcceptor, Refused}
+use Rattle.message.specs.declared.Message.{Message}
+use Rattle.message.specs.declared.Message.TheVariants.{OfProposer, OfAcceptor}
 use Rattle.message.specs.Layout.{count_at, acceptor_len, references_at}
 use Rattle.message.specs.Order.{ascending}
 use Rattle.message.specs.Reader.{unless, proposal_in, acceptor_in, reading, read_kind, read_proposal, read_acceptor, read_marked, read_counted}
@@ -25,22 +27,22 @@ use Rattle.message.proofs.Checks.{to_kind, to_marker, to_acceptor, to_proposal, 
 counted_outcome : (s : List ℕ) (b : Bool) (n : ℕ) → Marked b s → count_at b < length s → get_or s (count_at b) 0 ≡ n → Outcome s (read_counted s b n)
 counted_outcome s b n h t c = some (ltb 0 n) refl
   where
-    all : (y : Bool) → ascending (n - 1) s (references_at b) ≡ y → Counted b n s → length s ≡ acceptor_len b n → Outcome s (unless y Order (OfAcceptor (acceptor_in s b n)))
+    all : (y : Bool) → ascending (n - 1) s (references_at b) ≡ y → Counted b n s → length s ≡ acceptor_len b n → Outcome s (unless y Order (Ok (OfAcceptor (acceptor_in s b n))))
     all true e k l = acceptor b n (record { counted = k; long = l; ordered = e })
     all false e k l = disordered b n k l e
 
     long : (y : Bool) → eqb (length s) (acceptor_len b n) ≡ y → Counted b n s
-        → Outcome s (unless y Length (unless (ascending (n - 1) s (references_at b)) Order (OfAcceptor (acceptor_in s b n))))
+        → Outcome s (unless y Length (unless (ascending (n - 1) s (references_at b)) Order (Ok (OfAcceptor (acceptor_in s b n)))))
     long true e k = all (ascending (n - 1) s (references_at b)) refl k (eqb-true (length s) (acceptor_len b n) e)
     long false e k = wrong_acceptor b n k (eqb-false (length s) (acceptor_len b n) e)
 
     most : (y : Bool) → leb n 128 ≡ y → 0 < n
-        → Outcome s (unless y Range (unless (eqb (length s) (acceptor_len b n)) Length (unless (ascending (n - 1) s (references_at b)) Order (OfAcceptor (acceptor_in s b n)))))
+        → Outcome s (unless y Range (unless (eqb (length s) (acceptor_len b n)) Length (unless (ascending (n - 1) s (references_at b)) Order (Ok (OfAcceptor (acceptor_in s b n))))))
     most true e k = long (eqb (length s) (acceptor_len b n)) refl (record { marked = h; there = t; right = c; some = k; most = leb-true n 128 e })
     most false e k = let z = leb-false n 128 e in many_references b h t (omega arith)
 
     some : (y : Bool) → ltb 0 n ≡ y
-        → Outcome s (unless y Range (unless (leb n 128) Range (unless (eqb (length s) (acceptor_len b n)) Length (unless (ascending (n - 1) s (references_at b)) Order (OfAcceptor (acceptor_in s b n))))))
+        → Outcome s (unless y Range (unless (leb n 128) Range (unless (eqb (length s) (acceptor_len b n)) Length (unless (ascending (n - 1) s (references_at b)) Order (Ok (OfAcceptor (acceptor_in s b n)))))))
     some true e = most (leb n 128) refl (ltb-true 0 n e)
     some false e = let z = ltb-false 0 n e in no_references b h t (omega arith)
 
@@ -64,7 +66,7 @@ acceptor_outcome s k = there (ltb 9 (length s)) refl
 kind_outcome : (s : List ℕ) → Versioned s → 3 < length s → Outcome s (read_kind s (get_or s 3 0))
 kind_outcome s v t = one (eqb (get_or s 3 0) 1) refl
   where
-    long : (y : Bool) → eqb (length s) 17 ≡ y → OfKind 1 s → Outcome s (unless y Length (OfProposer (proposal_in s)))
+    long : (y : Bool) → eqb (length s) 17 ≡ y → OfKind 1 s → Outcome s (unless y Length (Ok (OfProposer (proposal_in s))))
     long true e k = proposal (record { kind = k; long = eqb-true (length s) 17 e })
     long false e k = wrong_proposal k (eqb-false (length s) 17 e)
 
@@ -130,10 +132,10 @@ to_counted s b m t = to_marked s b m ∙ simp (lt-ltb (count_at b) (length s) t)
 to_count : (s : List ℕ) (b : Bool) (n : ℕ) → Counted b n s → reading s ≡ read_counted s b n
 to_count s b n c = to_counted s b c.marked c.there ∙ ap (read_counted s b) c.right
 
-outcome_only : (s : List ℕ) (r : Reading) → Outcome s r → reading s ≡ r
+outcome_only : (s : List ℕ) (r : Result Message Refusal) → Outcome s r → reading s ≡ r
 outcome_only s r (wrong_length h) = outer (leb 2 (length s)) refl
   where
-    outer : (y : Bool) → leb 2 (length s) ≡ y → reading s ≡ Refused Length
+    outer : (y : Bool) → leb 2 (length s) ≡ y → reading s ≡ Err Length
     outer true e = simp (e, ne_eqb (length s) (2 + be 2 s 0) h)
     outer false e = simp e
 outcome_only s r (no_version w l) = simp (le-leb 2 (length s) (omega arith), eq-eqb (length s) (2 + be 2 s 0) w, le-ltb 2 (length s) l)

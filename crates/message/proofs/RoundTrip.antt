@@ -9,10 +9,11 @@ use lib.Dec.{eqb}
 use lib.ListN.{length, get_or, take, length-append}
 use lib.Seq.{take_at, drop_at, get_or_at, take_all, take-add}
 use borrow.Author.Tests.{eq-eqb, lt-ltb}
+use Rattle.std.proofs.Common.{Ok}
 use Rattle.base.specs.Tests.{pick}
 use Rattle.base.specs.Bytes.{be, bytes, part, Octets}
 use Rattle.base.proofs.Bytes.{be_at, be_bytes, bytes_be, part_suc, part_length}
-use Rattle.message.specs.declared.Reading.TheVariants.{OfProposer, OfAcceptor}
+use Rattle.message.specs.declared.Message.TheVariants.{OfProposer, OfAcceptor}
 use Rattle.message.specs.Layout.{marker, count_at, references_at, acceptor_len}
 use Rattle.message.specs.Order.{ascending}
 use Rattle.message.specs.Reader.{proposal_in, read_kind, read_proposal, read_acceptor, read_marked, read_counted, previous_in}
@@ -52,7 +53,7 @@ proposal_reads_back p h b x =
     let k : read_kind s (get_or s 3 0) ≡ read_proposal s = simp (eq-eqb (get_or s 3 0) 1 f.kind_is) in
     let o = f.outer in
     to_kind s (omega arith) (omega arith) f.version ∙ k ∙ to_proposal s l
-    ∙ (λ i. OfProposer (record { house = f.house_is i; bay = f.bay_is i; proposer = f.signer_is i; ballot = y i }))
+    ∙ (λ i. Ok (OfProposer (record { house = f.house_is i; bay = f.bay_is i; proposer = f.signer_is i; ballot = y i })))
 
 pub ballot_reads_back : BallotReadsBack
 unfolding value_of
@@ -98,7 +99,7 @@ acceptor_reads_back house bay signer previous n ids a =
           to_kind s (omega (arith, a.most)) (omega arith) f.version ∙ kind
           ∙ to_marker s (omega arith) (omega arith) b (ap (λ (x : ℕ). eqb x 1) marked ∙ (marker_test b).0) ∙ there ∙ ap (read_counted s b) counted
           ∙ to_acceptor s b n a.some a.most l ordered
-          ∙ (λ i. OfAcceptor (record { house = f.house_is i; bay = f.bay_is i; signer = f.signer_is i; previous = b; count = n }));
+          ∙ (λ i. Ok (OfAcceptor (record { house = f.house_is i; bay = f.bay_is i; signer = f.signer_is i; previous = b; count = n })));
       previous_back =
           ap (λ (z : List ℕ). part (pick b 32 0) z 10) (sym behind₂)
           ∙ ap (take (pick b 32 0)) (drop_at (h ++ m) (previous ++ ((n ∷ []) ++ ids)) 10 (omega arith)) ∙ take_at previous ((n ∷ []) ++ ids) (pick b 32 0) span;

@@ -1,9 +1,10 @@
 -- The reader's outcomes one by one: what each asks of the bytes s. That exactly one of them holds, and that it is the reader's, is the theorem `exactly_one_outcome`.
-use Rattle.std.specs.Prelude.{◌≡◌, Bool, true, false, List, ℕ, ◌+◌, ◌-◌, ◌≤◌, ◌<◌, length, get_or}
+use Rattle.std.specs.Prelude.{◌≡◌, Bool, true, false, List, Result, Ok, Err, ℕ, ◌+◌, ◌-◌, ◌≤◌, ◌<◌, length, get_or}
 use Rattle.base.specs.Bytes.{be}
+use Rattle.base.specs.declared.refusal.Refusal.{Refusal}
 use Rattle.base.specs.declared.refusal.Refusal.TheVariants.{Length, Version, Range, Order}
-use Rattle.message.specs.declared.Reading.{Reading}
-use Rattle.message.specs.declared.Reading.TheVariants.{OfProposer, OfAcceptor, Refused}
+use Rattle.message.specs.declared.Message.{Message}
+use Rattle.message.specs.declared.Message.TheVariants.{OfProposer, OfAcceptor}
 use Rattle.message.specs.Layout.{outer_len, version_at, version, kind_at, proposal_kind, acceptor_kind, proposal_len, marker_at, marker, count_at, most_references, references_at, acceptor_len}
 use Rattle.message.specs.Order.{ascending}
 use Rattle.message.specs.Reader.{proposal_in, acceptor_in}
@@ -50,19 +51,19 @@ pub record IsAcceptor (previous : Bool) (n : ℕ) (s : List ℕ) : Type 0 where
   pub ordered : ascending (n - 1) s (references_at previous) ≡ true
 
 -- the rows of the table "When a call is turned down" that concern a message, in the order in which they are checked
-pub data Outcome (s : List ℕ) : Reading → Type 0 where
-  wrong_length : (Whole s → ⊥) → Outcome s (Refused Length)
-  no_version : Whole s → length s ≤ version_at → Outcome s (Refused Length)
-  other_version : Whole s → version_at < length s → (get_or s version_at 0 ≡ version → ⊥) → Outcome s (Refused Version)
-  no_kind : Versioned s → length s ≤ kind_at → Outcome s (Refused Length)
-  other_kind : Versioned s → kind_at < length s → (get_or s kind_at 0 ≡ proposal_kind → ⊥) → (get_or s kind_at 0 ≡ acceptor_kind → ⊥) → Outcome s (Refused Range)
-  wrong_proposal : OfKind proposal_kind s → (length s ≡ proposal_len → ⊥) → Outcome s (Refused Length)
-  proposal : IsProposal s → Outcome s (OfProposer (proposal_in s))
-  no_marker : OfKind acceptor_kind s → length s ≤ marker_at → Outcome s (Refused Length)
-  other_marker : OfKind acceptor_kind s → marker_at < length s → 1 < get_or s marker_at 0 → Outcome s (Refused Range)
-  no_count : (previous : Bool) → Marked previous s → length s ≤ count_at previous → Outcome s (Refused Length)
-  no_references : (previous : Bool) → Marked previous s → count_at previous < length s → get_or s (count_at previous) 0 ≡ 0 → Outcome s (Refused Range)
-  many_references : (previous : Bool) → Marked previous s → count_at previous < length s → most_references < get_or s (count_at previous) 0 → Outcome s (Refused Range)
-  wrong_acceptor : (previous : Bool) (n : ℕ) → Counted previous n s → (length s ≡ acceptor_len previous n → ⊥) → Outcome s (Refused Length)
-  disordered : (previous : Bool) (n : ℕ) → Counted previous n s → length s ≡ acceptor_len previous n → ascending (n - 1) s (references_at previous) ≡ false → Outcome s (Refused Order)
-  acceptor : (previous : Bool) (n : ℕ) → IsAcceptor previous n s → Outcome s (OfAcceptor (acceptor_in s previous n))
+pub data Outcome (s : List ℕ) : Result Message Refusal → Type 0 where
+  wrong_length : (Whole s → ⊥) → Outcome s (Err Length)
+  no_version : Whole s → length s ≤ version_at → Outcome s (Err Length)
+  other_version : Whole s → version_at < length s → (get_or s version_at 0 ≡ version → ⊥) → Outcome s (Err Version)
+  no_kind : Versioned s → length s ≤ kind_at → Outcome s (Err Length)
+  other_kind : Versioned s → kind_at < length s → (get_or s kind_at 0 ≡ proposal_kind → ⊥) → (get_or s kind_at 0 ≡ acceptor_kind → ⊥) → Outcome s (Err Range)
+  wrong_proposal : OfKind proposal_kind s → (length s ≡ proposal_len → ⊥) → Outcome s (Err Length)
+  proposal : IsProposal s → Outcome s (Ok (OfProposer (proposal_in s)))
+  no_marker : OfKind acceptor_kind s → length s ≤ marker_at → Outcome s (Err Length)
+  other_marker : OfKind acceptor_kind s → marker_at < length s → 1 < get_or s marker_at 0 → Outcome s (Err Range)
+  no_count : (previous : Bool) → Marked previous s → length s ≤ count_at previous → Outcome s (Err Length)
+  no_references : (previous : Bool) → Marked previous s → count_at previous < length s → get_or s (count_at previous) 0 ≡ 0 → Outcome s (Err Range)
+  many_references : (previous : Bool) → Marked previous s → count_at previous < length s → most_references < get_or s (count_at previous) 0 → Outcome s (Err Range)
+  wrong_acceptor : (previous : Bool) (n : ℕ) → Counted previous n s → (length s ≡ acceptor_len previous n → ⊥) → Outcome s (Err Length)
+  disordered : (previous : Bool) (n : ℕ) → Counted previous n s → length s ≡ acceptor_len previous n → ascending (n - 1) s (references_at previous) ≡ false → Outcome s (Err Order)
+  acceptor : (previous : Bool) (n : ℕ) → IsAcceptor previous n s → Outcome s (Ok (OfAcceptor (acceptor_in s previous n)))

@@ -1,14 +1,11 @@
 -- The bytes of given fields, and a lent buffer that they are written to.
-use Rattle.std.specs.Prelude.{Bool, not, List, [], ◌∷◌, ◌++◌, ℕ, ◌-◌, eqb, ltb, length, drop}
+use Rattle.std.specs.Prelude.{Bool, not, List, [], ◌∷◌, ◌++◌, Result, Ok, Err, ℕ, ◌-◌, eqb, ltb, length, drop}
 use Rattle.base.specs.Tests.{pick}
 use Rattle.base.specs.Bytes.{bytes, part}
 use Rattle.base.specs.Ballots.{ballot_of}
+use Rattle.base.specs.declared.refusal.Refusal.{Refusal}
 use Rattle.base.specs.declared.refusal.Refusal.TheVariants.{Argument}
 use Rattle.message.specs.declared.Proposal.{Proposal}
-use Rattle.message.specs.declared.Place.{Place}
-use Rattle.message.specs.declared.Place.TheVariants.{At, NoPlace}
-use Rattle.message.specs.declared.Written.{Written}
-use Rattle.message.specs.declared.Written.TheVariants.{Bytes, NotWritten}
 use Rattle.message.specs.Layout.{outer_len, version, proposal_kind, acceptor_kind, proposal_len, marker, id_len, acceptor_len}
 use Rattle.message.specs.Reader.{reference_in}
 
@@ -47,20 +44,22 @@ fronted e buffer = e ++ drop (length e) buffer
 abbrev pub written_to : List ℕ → List ℕ → List ℕ
 written_to e buffer = pick (ltb (length buffer) (length e)) buffer (fronted e buffer)
 
-abbrev pub wrote : List ℕ → List ℕ → Written
-wrote e buffer = pick (ltb (length buffer) (length e)) (NotWritten Argument) (Bytes (length e))
+-- how many bytes were written
+abbrev pub wrote : List ℕ → List ℕ → Result ℕ Refusal
+wrote e buffer = pick (ltb (length buffer) (length e)) (Err Argument) (Ok (length e))
 
--- the n-th reference of the bytes s, copied to the front of a lent buffer: 17 for a buffer too short, then 1 to 4, then 17 where there is none
-abbrev pub copied_from : List ℕ → Place → List ℕ → List ℕ
-copied_from s (At at) buffer = fronted (part id_len s at) buffer
-copied_from s (NoPlace r) buffer = buffer
+-- the n-th reference of the bytes s, by where it stands, copied to the front of a lent buffer: 17 for a buffer too short, then 1 to 4, then 17 where there is none
+abbrev pub copied_from : List ℕ → Result ℕ Refusal → List ℕ → List ℕ
+copied_from s (Ok at) buffer = fronted (part id_len s at) buffer
+copied_from s (Err r) buffer = buffer
 
-abbrev pub copy_answer : Place → Written
-copy_answer (At at) = Bytes id_len
-copy_answer (NoPlace r) = NotWritten r
+-- how many bytes were copied
+abbrev pub copy_answer : Result ℕ Refusal → Result ℕ Refusal
+copy_answer (Ok at) = Ok id_len
+copy_answer (Err r) = Err r
 
 abbrev pub reference_to : List ℕ → ℕ → List ℕ → List ℕ
 reference_to s n buffer = pick (ltb (length buffer) id_len) buffer (copied_from s (reference_in s n) buffer)
 
-abbrev pub reference_answer : List ℕ → ℕ → List ℕ → Written
-reference_answer s n buffer = pick (ltb (length buffer) id_len) (NotWritten Argument) (copy_answer (reference_in s n))
+abbrev pub reference_answer : List ℕ → ℕ → List ℕ → Result ℕ Refusal
+reference_answer s n buffer = pick (ltb (length buffer) id_len) (Err Argument) (copy_answer (reference_in s n))

@@ -1,6 +1,6 @@
 // Where the fields of a message stand. A new field or another version is a change here.
 ghost use Rattle.std.specs.Prelude.{◌≡◌, true, ◌≤◌};
-ghost use Rattle.message.specs.Layout.{marker, count_at, references_at};
+ghost use Rattle.message.specs.Layout.{count_at, references_at};
 
 pub const OUTER_LEN: usize = 2;
 
@@ -35,13 +35,6 @@ pub const COUNT_AT: usize = 10;
 pub const MAX_REFERENCES: usize = 128;
 // The longest message: a previous id and as many references as there can be.
 pub const MAX_LEN: usize = COUNT_AT + ID_LEN + 1 + ID_LEN * MAX_REFERENCES;
-
-// The marker's byte.
-pub fn marker_of(previous: bool) -> u8
-    ensures { result ≡ marker previous }
-{
-    if previous { 1 } else { 0 }
-}
 
 // Where the count of references stands.
 pub fn count_at(previous: bool) -> usize

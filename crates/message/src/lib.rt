@@ -20,10 +20,10 @@ use base::refusal::Refusal;
 use base::{put_all, put8, put64, read16};
 use layout::{
     ACCEPTOR, BALLOT_AT, ID_LEN, KIND_AT, MARKER_AT, OUTER_LEN, PREVIOUS_AT, PROPOSAL,
-    PROPOSAL_LEN, VERSION, VERSION_AT, count_at, marker_of,
+    PROPOSAL_LEN, VERSION, VERSION_AT, count_at,
 };
-use reader::{read_acceptor, read_proposal};
-use references::nth_of;
+use reader::{byte_at, read_acceptor, read_proposal};
+use references::References;
 use writer::{put_references, write_head};
 
 #[derive(Clone, Copy)]
@@ -45,85 +45,53 @@ pub struct AcceptorMessage {
     pub count: usize,
 }
 
-// What bytes say.
+// What bytes say that are not turned down.
 #[derive(Clone, Copy)]
-pub enum Reading {
+pub enum Message {
     OfProposer(Proposal),
     OfAcceptor(AcceptorMessage),
-    Refused(Refusal),
-}
-
-// Where an id stands in a message.
-#[derive(Clone, Copy)]
-pub enum Place {
-    At(usize),
-    NoPlace(Refusal),
-}
-
-// How many bytes were written to the front of a lent buffer.
-#[derive(Clone, Copy)]
-pub enum Written {
-    Bytes(usize),
-    NotWritten(Refusal),
 }
 
 // Reads a message from any bytes.
-pub fn read(bytes: &[u8]) -> Reading
+pub fn read(bytes: &[u8]) -> Result<Message, Refusal>
     ensures { result ≡ reading bytes.now }
 {
-    if bytes.len() < OUTER_LEN {
-        return Reading::Refused(Refusal::Length);
+    if bytes.len() < OUTER_LEN || bytes.len() != OUTER_LEN + read16(bytes, 0) {
+        return Err(Refusal::Length);
     }
-    if bytes.len() != OUTER_LEN + read16(bytes, 0) {
-        return Reading::Refused(Refusal::Length);
+    if byte_at(bytes, VERSION_AT)? != VERSION {
+        return Err(Refusal::Version);
     }
-    if bytes.len() <= VERSION_AT {
-        return Reading::Refused(Refusal::Length);
+    match byte_at(bytes, KIND_AT)? {
+        PROPOSAL => read_proposal(bytes),
+        ACCEPTOR => read_acceptor(bytes),
+        _ => Err(Refusal::Range),
     }
-    if bytes[VERSION_AT] != VERSION {
-        return Reading::Refused(Refusal::Version);
-    }
-    if bytes.len() <= KIND_AT {
-        return Reading::Refused(Refusal::Length);
-    }
-    let kind = bytes[KIND_AT];
-    if kind == PROPOSAL {
-        return read_proposal(bytes);
-    }
-    if kind != ACCEPTOR {
-        return Reading::Refused(Refusal::Range);
-    }
-    read_acceptor(bytes)
 }
 
 // Where the n-th reference stands, from 0 on.
-pub fn reference(bytes: &[u8], n: usize) -> Place
+pub fn reference(bytes: &[u8], n: usize) -> Result<usize, Refusal>
     ensures { result ≡ reference_in bytes.now n }
 {
-    match read(bytes) {
-        Reading::Refused(r) => Place::NoPlace(r),
-        Reading::OfProposer(_) => nth_of(bytes, 0, n),
-        Reading::OfAcceptor(m) => nth_of(bytes, m.count, n),
+    match read(bytes)? {
+        Message::OfProposer(_) => Err(Refusal::Argument),
+        Message::OfAcceptor(m) => References::new(bytes, m.count).nth(n),
     }
 }
 
-// Hands the 32 bytes of the n-th reference out.
-pub fn copy_reference(bytes: &[u8], n: usize, id: &mut [u8]) -> Written
+// Hands the 32 bytes of the n-th reference out, and answers how many bytes it wrote.
+pub fn copy_reference(bytes: &[u8], n: usize, id: &mut [u8]) -> Result<usize, Refusal>
     ensures { (result ≡ reference_answer bytes.now n id.old) × (id.new ≡ reference_to bytes.now n id.old) }
 {
     if id.len() < ID_LEN {
-        return Written::NotWritten(Refusal::Argument);
+        return Err(Refusal::Argument);
     }
-    match reference(bytes, n) {
-        Place::NoPlace(r) => Written::NotWritten(r),
-        Place::At(at) => {
-            put_all(id, 0, &bytes[at..at + ID_LEN]);
-            Written::Bytes(ID_LEN)
-        }
-    }
+    let at = reference(bytes, n)?;
+    put_all(id, 0, &bytes[at..at + ID_LEN]);
+    Ok(ID_LEN)
 }
 
-// Writes a proposal, with the round number as it is given; `ballot::meant_round` says what 0 stands for.
+// Writes a proposal and answers its length. The round number is written as it is given; `ballot::meant_round` says what 0 stands for.
 pub fn write_proposal(
     house: u16,
     bay: u16,
@@ -131,15 +99,15 @@ pub fn write_proposal(
     round: u32,
     value: u32,
     buf: &mut [u8],
-) -> Written
+) -> Result<usize, Refusal>
     ensures { (result ≡ wrote (proposal_bytes (proposal_of house bay proposer round value)) buf.old) × (buf.new ≡ written_to (proposal_bytes (proposal_of house bay proposer round value)) buf.old) }
 {
     if buf.len() < PROPOSAL_LEN {
-        return Written::NotWritten(Refusal::Argument);
+        return Err(Refusal::Argument);
     }
     write_head(buf, PROPOSAL_LEN, PROPOSAL, house, bay, proposer);
     put64(buf, BALLOT_AT, ballot_of(round, value));
-    Written::Bytes(PROPOSAL_LEN)
+    Ok(PROPOSAL_LEN)
 }
 
 // Writes an acceptor message and answers its length. An empty previous id stands for none. The
@@ -161,7 +129,7 @@ pub fn write_acceptor<'a>(
     let at = count_at(named);
     let len = at + 1 + ID_LEN * count;
     write_head(buf, len, ACCEPTOR, house, bay, signer);
-    put8(buf, MARKER_AT, marker_of(named));
+    put8(buf, MARKER_AT, u8::from(named));
     put_all(buf, PREVIOUS_AT, previous);
     put8(buf, at, count as u8);
     put_references(buf, at + 1, ids, places, count);

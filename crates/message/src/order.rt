@@ -26,14 +26,12 @@ fn words_before(s: &[u8], a: usize, x: u64, b: usize, y: u64) -> bool
     if x != y {
         return x < y;
     }
-    let mut i = WORD_LEN;
-    while i < ID_LEN {
-        let v = read64(s, a + i);
-        let w = read64(s, b + i);
+    for k in 1..ID_LEN / WORD_LEN {
+        let v = read64(s, a + WORD_LEN * k);
+        let w = read64(s, b + WORD_LEN * k);
         if v != w {
             return v < w;
         }
-        i += WORD_LEN;
     }
     false
 }
@@ -43,17 +41,14 @@ pub fn ids_ascend(s: &[u8], from: usize, n: usize) -> bool
     requires { from + id_len + id_len * n ≤ length s.now }
     ensures { result ≡ ascending n s.now from }
 {
-    let mut at = from;
     let mut first = read64(s, from);
-    let mut left = n;
-    while 0 < left {
+    for i in 0..n {
+        let at = from + ID_LEN * i;
         let next = read64(s, at + ID_LEN);
         if !words_before(s, at, first, at + ID_LEN, next) {
             return false;
         }
         first = next;
-        at += ID_LEN;
-        left -= 1;
     }
     true
 }

@@ -1,11 +1,7 @@
 // The references of a message that was read: a struct that lends the message's bytes and knows how many ids end them.
-//
-// Each function over the struct is thin: it takes the struct apart and calls a function on the slice and the number.
-// Callers with plain slices go through `nth_of`.
 ghost use Rattle.std.specs.Prelude.{◌≡◌};
 ghost use Rattle.message.specs.Reader.{nth_of};
 
-use super::Place;
 use super::layout::ID_LEN;
 use base::refusal::Refusal;
 
@@ -15,52 +11,40 @@ pub struct References<'a> {
     pub count: usize,
 }
 
-// Where the n-th of the count ids stands that end these bytes; bytes too short for so many have none. The count is
-// compared with the room and n with the count before they are multiplied.
-pub fn place_of(bytes: &[u8], count: usize, n: usize) -> Place
-    ensures { result ≡ nth_of bytes.now count n }
-{
-    if bytes.len() / ID_LEN < count {
-        return Place::NoPlace(Refusal::Argument);
+impl<'a> References<'a> {
+    // The references of a message with this count; a proposal has none.
+    pub fn new(bytes: &'a [u8], count: usize) -> References<'a>
+        ensures { (result.bytes ≡ bytes.entry) × (result.count ≡ count) }
+    {
+        References { bytes, count }
     }
-    if n < count {
-        Place::At(bytes.len() - ID_LEN * (count - n))
-    } else {
-        Place::NoPlace(Refusal::Argument)
+
+    // Where the n-th of the count ids stands that end these bytes, from 0 on; bytes too short for so many have none. The
+    // count is compared with the room and n with the count before they are multiplied.
+    pub fn nth(self, n: usize) -> Result<usize, Refusal>
+        ensures { result ≡ nth_of self.entry.bytes.now self.entry.count n }
+    {
+        if self.bytes.len() / ID_LEN < self.count {
+            return Err(Refusal::Argument);
+        }
+        if n < self.count {
+            Ok(self.bytes.len() - ID_LEN * (self.count - n))
+        } else {
+            Err(Refusal::Argument)
+        }
     }
-}
 
-// The references of a message with this count; a proposal has none.
-pub fn hold<'a>(bytes: &'a [u8], count: usize) -> References<'a>
-    ensures { (result.bytes ≡ bytes.entry) × (result.count ≡ count) }
-{
-    References { bytes, count }
-}
+    // The message's bytes, handed back.
+    pub fn bytes(self) -> &'a [u8]
+        ensures { result ≡ self.entry.bytes }
+    {
+        self.bytes
+    }
 
-// Where the n-th reference stands, from 0 on.
-pub fn nth<'a>(r: References<'a>, n: usize) -> Place
-    ensures { result ≡ nth_of r.entry.bytes.now r.entry.count n }
-{
-    place_of(r.bytes, r.count, n)
-}
-
-// The message's bytes, handed back.
-pub fn bytes_of<'a>(r: References<'a>) -> &'a [u8]
-    ensures { result ≡ r.entry.bytes }
-{
-    r.bytes
-}
-
-// How many references there are.
-pub fn count_of<'a>(r: References<'a>) -> usize
-    ensures { result ≡ r.entry.count }
-{
-    r.count
-}
-
-// The n-th reference, for callers that have a slice and a count.
-pub fn nth_of(bytes: &[u8], count: usize, n: usize) -> Place
-    ensures { result ≡ nth_of bytes.now count n }
-{
-    nth(hold(bytes, count), n)
+    // How many references there are.
+    pub fn count(self) -> usize
+        ensures { result ≡ self.entry.count }
+    {
+        self.count
+    }
 }

@@ -6,7 +6,7 @@ ghost use Rattle.message.specs.Writer.{head_bytes, fronted};
 ghost use Rattle.message.specs.Inside.Writing.{gathered};
 
 use super::layout::{BAY_AT, HOUSE_AT, ID_LEN, KIND_AT, OUTER_LEN, SIGNER_AT, VERSION, VERSION_AT};
-use base::{put_all, put8, put16, size};
+use base::{put_all, put8, put16};
 
 // What a message of len bytes begins with, up to its signer.
 pub fn write_head(buf: &mut [u8], len: usize, kind: u8, house: u16, bay: u16, signer: u8)
@@ -26,10 +26,8 @@ pub fn put_references<'a>(buf: &mut [u8], at: usize, ids: &'a [u8], places: &'a 
     requires { (at + id_len * n ≤ length buf.old) × ((n ≤ length places.now) × ((i : ℕ) → i < n → id_len * get_or places.now i 0 + id_len ≤ length ids.now)) }
     ensures { buf.new ≡ put_at buf.old at (gathered n ids.now places.now) }
 {
-    let mut i: usize = 0;
-    while i < n {
-        let from = ID_LEN * size(places[i]);
+    for i in 0..n {
+        let from = ID_LEN * usize::from(places[i]);
         put_all(buf, at + ID_LEN * i, &ids[from..from + ID_LEN]);
-        i += 1;
     }
 }

@@ -198,9 +198,12 @@ module _ (w ks : List ℕ) (hw : length w ≡ words_len) (hk : length ks ≡ len
   abbrev id_back : List ℕ
   id_back = take id_low_at w ++ (ks ++ drop ids_width (drop id_low_at w))
 
+  pub id_long : length id_back ≡ words_len
+  id_long = back_long w ks 5 id_low_at ids_width hw hk refl refl (omega arith)
+
   ids_put : word_notes id_back ≡ with_ids (word_notes w) (part id_keys ks 0) (part id_keys ks id_keys)
   ids_put =
-      sym (of_words id_back (back_long w ks 5 id_low_at ids_width hw hk refl refl (omega arith)))
+      sym (of_words id_back id_long)
       ∙ ap words_of (back_parts w ks 5 id_low_at ids_width hw hk refl refl (omega arith))
       ∙ ap (λ (x : WordNotes). with_ids x (part id_keys ks 0) (part id_keys ks id_keys)) (of_words w hw)
 
@@ -253,13 +256,9 @@ module _ (w ks : List ℕ) (hw : length w ≡ words_len) (hk : length ks ≡ len
         sym (of_words done n₇) ∙ ap words_of done_parts ∙ ap₂ (with_index (words_of (word_parts w)) (part keys ks 0) (part keys ks keys)) low high
         ∙ ap (λ (z : WordNotes). with_index z (part keys ks 0) (part keys ks keys) x y) (of_words w hw)
 
-  forked_kept : (j : ℕ) → j < 2 → get_or key_back (forked_at + j) 0 ≡ get_or w (forked_at + j) 0
-  forked_kept j l =
-      sym (get_d_part 2 key_back forked_at j l) ∙ ap (λ (v : List (List ℕ)). get_or (get_or v 7 []) j 0) key_parts ∙ get_d_part 2 w forked_at j l
-
   pub filed : (x y signer link ballot form p : ℕ) (forks : Bool)
       → Put (part keys (part keys_width w key_low_at) 0) (part keys (part keys_width w key_low_at) keys) (part keys ks 0) (part keys ks keys) signer link ballot form p
-      → ((q : ℕ) → q < max_held → in_set x y q ≡ ((forks && eqb p q) || in_set (get_or key_back forked_at 0) (get_or key_back (forked_at + 1) 0) q))
+      → ((q : ℕ) → q < max_held → in_set x y q ≡ ((forks && eqb p q) || in_set (word_notes w).forkedlow (word_notes w).forkedhigh q))
       → FiledIn (word_notes w) (word_notes (done x y)) signer link ballot form forks p
   unfolding word_notes
   filed x y signer link ballot form p forks put more =
@@ -268,7 +267,7 @@ module _ (w ks : List ℕ) (hw : length w ≡ words_len) (hk : length ks ≡ len
       let step : FiledIn (word_notes w) (with_index (word_notes w) (part keys ks 0) (part keys ks keys) x y) signer link ballot form forks p =
       record {
         put = transport (λ i. Put (low i) (high i) (part keys ks 0) (part keys ks keys) signer link ballot form p) put;
-        forked = λ q l. more q l ∙ ap₂ (λ (u v : ℕ). (forks && eqb p q) || in_set u v q) (forked_kept 0 (omega arith)) (forked_kept 1 (omega arith));
+        forked = more;
         rest = refl;
       } in
       subst (λ (z : WordNotes). FiledIn (word_notes w) z signer link ballot form forks p) (sym (indexed x y)) step

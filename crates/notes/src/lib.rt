@@ -1,6 +1,9 @@
-// The notes of the places of a round: what each held message means, in two lent arrays, with a reader for each column, the writers, and the index
-// over them, so that a question is asked of few places.
+// The notes of the places of a round: what each held message means, in two arrays, with a reader for each column, the writers, and the index over
+// them, so that a question is asked of few places.
 #![tactic(auto)]
+
+ghost use Rattle.std.specs.Prelude.{◌≡◌, length, replicate};
+ghost use Rattle.notes.specs.Inside.Layout.{words_len, octets_len};
 
 use places::Places;
 use round::{MAX_HELD, NO_PLACE};
@@ -72,6 +75,27 @@ pub const FRESH_AT: usize = LEARNERS_AT + MAX_HELD;
 pub const FORMS_AT: usize = FRESH_AT + MAX_HELD;
 
 pub const OCTETS: usize = FORMS_AT + MAX_HELD;
+
+// What the places of a round mean, each column of it at its place in one of two arrays.
+#[derive(Drop)]
+pub struct Notes {
+    pub words: [u64; WORDS],
+    pub octets: [u8; OCTETS],
+    pub ghost word_room: { length words ≡ words_len },
+    pub ghost octet_room: { length octets ≡ octets_len },
+}
+
+impl Notes {
+    // Room for notes, with nothing noted.
+    pub fn new() -> Notes
+        ensures { (result.words ≡ replicate words_len 0) × (result.octets ≡ replicate octets_len 0) }
+    {
+        Notes {
+            words: [0; WORDS],
+            octets: [0; OCTETS],
+        }
+    }
+}
 
 // What is worked out for a held message.
 #[derive(Clone, Copy)]

@@ -14,11 +14,7 @@ ghost use Rattle.round.specs.Limits.{max_held, acceptor_room, listening};
 pub fn is_other(house: u16, bay: u16, own_house: u16, own_bay: u16) -> bool
     ensures { result ≡ not (eqb house own_house && eqb bay own_bay) }
 {
-    if house == own_house {
-        bay != own_bay
-    } else {
-        true
-    }
+    (house, bay) != (own_house, own_bay)
 }
 
 // Row 9: whether the graph lacks the signer of an acceptor message.
@@ -37,12 +33,10 @@ const ACCEPTOR_ROOM: u8 = ROOM - 1;
 pub fn is_full(held: u8, own: u16, awaited: bool) -> bool
     ensures { result ≡ leb (pick (ltb own listening && not awaited) acceptor_room max_held) held }
 {
-    if awaited {
-        return ROOM <= held;
-    }
-    if own < LISTENING {
-        ACCEPTOR_ROOM <= held
+    let room = if own < LISTENING && !awaited {
+        ACCEPTOR_ROOM
     } else {
-        ROOM <= held
-    }
+        ROOM
+    };
+    room <= held
 }

@@ -6,3 +6,5 @@ pub mod Walks
 pub mod Loops
 -- Sets of places by a key
 pub mod Indexing
+-- Loops over the places of a set
+pub mod Going

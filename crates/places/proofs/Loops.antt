@@ -4,7 +4,7 @@ use mathlib.Core.Bool.{Bool, true, false, ◌&&◌, ◌||◌}
 use mathlib.Core.List.{List, [], ◌∷◌, ◌++◌}
 use Prim.Native.Nat.{ℕ, ◌+◌, ◌≤◌, ◌<◌}
 use native.Mathlib.Numerals.{add-one}
-use native.Mathlib.Decide.{ℕ_discrete, dec_lt}
+use native.Mathlib.Decide.{ℕ_discrete}
 use native.Mathlib.Omega.{arith}
 use lib.Dec.{T, eqb, ltb, eqb→eq, eqb_refl, ltb→lt, lt→ltb, not_T}
 use lib.ListN.{length, get_or, take, set}
@@ -12,7 +12,6 @@ use lib.Seq.{take-suc, get_or-set_same, get_or-set_other}
 use Rattle.base.specs.Tests.{any, below}
 use Rattle.base.proofs.Tests.{same_test, not_true, and_l, and_r, and_in, any_in, any_out, below_in, below_out}
 use Rattle.places.specs.Inside.PlaceSets.{in_set, Covers}
-use Rattle.places.proofs.Walks.{Passed}
 
 -- ---- over the numbers below a bound
 pub any_suc : (f : ℕ → Bool) (i : ℕ) → any f (below (i + 1)) ≡ (f i || any f (below i))
@@ -28,29 +27,9 @@ any_done f j n l g = let e : j ≡ n = omega arith in ap (λ (k : ℕ). any f (b
 pub any_none : (f : ℕ → Bool) (n : ℕ) → ((j : ℕ) → j < n → T (f j) → ⊥) → any f (below n) ≡ false
 any_none f n h = not_true (any f (below n)) (not_T (any f (below n)) (λ t. let (j, m, k) = any_out f (below n) t in h j (below_out n m) k))
 
--- what fails from j to below r adds nothing
-pub any_skip : (f : ℕ → Bool) (j r : ℕ) → j ≤ r → ((q : ℕ) → j ≤ q → q < r → f q ≡ false) → any f (below r) ≡ any f (below j)
-any_skip f j r l h = same_test _ _ to from
-  where
-    to : T (any f (below r)) → T (any f (below j))
-    to t = let (q, m, k) = any_out f (below r) t in step q (below_out r m) k (dec_lt q j)
-      where
-        step : (q : ℕ) → q < r → T (f q) → Dec (q < j) → T (any f (below j))
-        step q g k (yes d) = any_in f {x = q} (below_in j d) k
-        step q g k (no d) = absurd (subst T (h q (omega arith) g) k)
-
-    from : T (any f (below j)) → T (any f (below r))
-    from t = let (q, m, k) = any_out f (below j) t in let g = below_out j m in any_in f {x = q} (below_in r (omega arith)) k
-
 -- a place that is not in a set that covers the test fails it
 pub not_covered : (n : ℕ) (f : ℕ → Bool) (low high q : ℕ) → Covers n f low high → q < n → in_set low high q ≡ false → f q ≡ false
 not_covered n f low high q cover l e = not_true (f q) (not_T (f q) (λ t. subst T e (cover q l t)))
-
--- ---- from one member of a set to the next: a test that only places of the covered test pass
-pub any_next : (n : ℕ) (f g : ℕ → Bool) (low high j r : ℕ) → Covers n f low high → ((q : ℕ) → T (g q) → T (f q))
-    → Passed n low high j r → any g (below j) ≡ any g (below r)
-any_next n f g low high j r cover part (l, (u, none)) =
-    sym (any_skip g j r l (λ q a b. not_covered n g low high q (λ i d t. cover i d (part i t)) (omega arith) (none q a b)))
 
 -- a number put into a set where the test passes
 pub put_again : (test : ℕ → Bool) (key : ℕ → ℕ) (j p : ℕ) (on x y : Bool) → x ≡ ((on && eqb (key j) p) || y) → on ≡ test j

@@ -1,12 +1,12 @@
 -- Sets as bits: what testing, adding, joining and meeting say of membership.
 use mathlib.Core.Path.{◌≡◌, refl, sym, ap, ap₂, subst, ◌∙◌}
 use mathlib.Core.Logic.{◌⊎◌, inl, inr}
-use mathlib.Core.Bool.{Bool, true, false, not, ◌&&◌, ◌||◌}
+use mathlib.Core.Bool.{Bool, true, false, not, ◌&&◌, ◌||◌, or_comm}
 use Prim.Native.Nat.{ℕ, ◌+◌, ◌-◌, ◌*◌, ◌/◌, ◌%◌, ◌^◌, ◌≤◌, ◌<◌}
 use native.Mathlib.Nat.{lt_of_le_of_lt}
 use native.Mathlib.Decide.{dec_lt}
 use native.Mathlib.Omega.{arith}
-use borrow.Author.Tests.{lt-ltb, le-ltb, ne_eqb, ltb-false}
+use borrow.Author.Tests.{lt-ltb, le-ltb, ne_eqb}
 use lib.Bits.{bit_and, bit_or, and_mask, and_le_l}
 use lib.Dec.{T, eqb, ltb, eqb→eq, not_T}
 use Rattle.base.specs.Tests.{pick, any, below}
@@ -16,16 +16,9 @@ use Rattle.base.proofs.Bits.{one_shl, some_bit}
 use Rattle.base.proofs.Sets.{has_or, has_and, has_one, has_below}
 use Rattle.places.specs.Inside.PlaceSets.{in_set, meets}
 use Rattle.round.specs.Limits.{max_held}
-use Rattle.graph.specs.Limits.{mask_bits}
 
 pub other : {t : Bool} → t ≡ true → t ≡ false → ⊥
 other p q = let z : ◌≡◌ {A = ℕ} 0 1 = cc in omega arith
-
-pub or_swap : (a b : Bool) → (a || b) ≡ (b || a)
-or_swap true true = refl
-or_swap true false = refl
-or_swap false true = refl
-or_swap false false = refl
 
 pub and_off : (a b : Bool) → b ≡ false → (a && b) ≡ false
 and_off true b e = e
@@ -49,7 +42,7 @@ has_shift x j = ap (λ (y : ℕ). eqb y 1) (and_mask (x / 2 ^ j) 1)
 -- `x | (1 << j)` at a width
 pub has_with : (k x j q : ℕ) → j < k → has (bit_or x (1 * 2 ^ j % 2 ^ k)) q ≡ (eqb j q || has x q)
 has_with k x j q h =
-    ap (λ (y : ℕ). has (bit_or x y) q) (one_shl k j h) ∙ has_or x (2 ^ j) q ∙ or_swap (has x q) (has (2 ^ j) q)
+    ap (λ (y : ℕ). has (bit_or x y) q) (one_shl k j h) ∙ has_or x (2 ^ j) q ∙ or_comm (has x q) (has (2 ^ j) q)
     ∙ ap (λ (b : Bool). b || has x q) (has_one j q ∙ eqb_swap q j)
 
 -- ---- sets of places
@@ -159,11 +152,6 @@ pub both : (a b : Bool) → (a && b) ≡ true → (a ≡ true) × (b ≡ true)
 both true b e = (refl, e)
 both false true e = (e, refl)
 both false false e = (e, e)
-
--- what is not put in where the test fails, or where the number is past the mask
-pub not_put : (on m : Bool) (p q : ℕ) → (on && ltb p mask_bits) ≡ false → q < mask_bits → m ≡ ((on && eqb p q) || m)
-not_put true m p q h l = sym (ap (λ (b : Bool). b || m) (ne_eqb p q (λ e. let g = ltb-false p mask_bits h in omega arith)))
-not_put false m p q h l = refl
 
 -- what two sets have, their common part has
 pub in_both : {x : Bool} (y z : Bool) → x ≡ (y && z) → T y → T z → T x

@@ -1,6 +1,7 @@
 -- A walk over a set of places, lowest first: the first place of a set, the set without it, and what is left of a walk.
 use mathlib.Core.Path.{◌≡◌, refl, sym, ap, ap₂, subst, ◌∙◌}
 use mathlib.Core.Bool.{Bool, false, not, ◌&&◌}
+use mathlib.Core.List.{List, [], ◌∷◌}
 use Prim.Native.Nat.{ℕ, zero, suc, ◌+◌, ◌-◌, ◌*◌, ◌/◌, ◌%◌, ◌^◌, ◌≤◌, ◌<◌, min}
 use native.Mathlib.Nat.{mod-lt, pow-suc}
 use native.Mathlib.Decide.{ℕ_discrete, dec_lt}
@@ -13,8 +14,10 @@ use Rattle.base.specs.Sets.{has}
 use Rattle.base.proofs.Tests.{same_test, eq→eqb, and_cong}
 use Rattle.base.proofs.Bits.{bit, bit_suc, some_bit}
 use Rattle.base.proofs.Sets.{has_and, has_below}
-use Rattle.places.specs.Inside.PlaceSets.{in_set, NoneBelow, First, Dropped}
+use Rattle.base.specs.Tests.{pick}
+use Rattle.places.specs.Inside.PlaceSets.{in_set, NoneBelow, First, Dropped, members}
 use Rattle.places.proofs.Membership.{has_zero, in_low, in_high, in_zero, and_on, and_off}
+use Rattle.round.proofs.Joined.{is_true}
 use Rattle.round.specs.Limits.{max_held}
 
 -- ---- one word: its lowest bit that is set, and the bits below it
@@ -179,42 +182,59 @@ module _ (low high : ℕ) where
   pub dropped_none : low ≡ 0 → high ≡ 0 → Dropped low high low high
   dropped_none z y f m none q = absurd (subst T (ap₂ (λ (a b : ℕ). in_set a b f) z y ∙ in_zero f) m)
 
--- ---- what is left of a walk over the first n places: j is next, and from j on the rest has the places of the walk
-pub record Left (n low high restLow restHigh j : ℕ) : Type 0 where
-  pub next : First n restLow restHigh j
-  pub same : (q : ℕ) → j ≤ q → in_set restLow restHigh q ≡ in_set low high q
-
--- from place j to r the walk passes over no place of its set
+-- ---- from place j to r the walk passes over no place of its set
 abbrev pub Passed : ℕ → ℕ → ℕ → ℕ → ℕ → Type 0
 Passed n low high j r = (j ≤ r) × ((r ≤ n) × ((q : ℕ) → j ≤ q → q < r → in_set low high q ≡ false))
 
-pub walk_begun : {n low high r : ℕ} → First n low high r → Passed n low high 0 r × Left n low high low high r
-walk_begun first = ((omega arith, (first.bound, λ q a b. first.none q b)), record { next = first; same = λ q l. refl })
+-- ---- the places that a walk goes over
 
-module _ {n low high restLow restHigh restLow' restHigh' j r : ℕ}
-    (left : Left n low high restLow restHigh j) (more : j < n) (drop : Dropped restLow restHigh restLow' restHigh') (first : First n restLow' restHigh' r) where
-  without : (q : ℕ) → in_set restLow' restHigh' q ≡ (in_set restLow restHigh q && not (eqb q j))
-  without = drop j (left.next.member more) left.next.none
+module _ (low high : ℕ) where
+  -- it passes over what is not in the set,
+  members_skip : (a d k m j : ℕ) → m ≡ d + k → j ≡ a + d → ((q : ℕ) → a ≤ q → q < j → in_set low high q ≡ false) → members low high a m ≡ members low high j k
+  unfolding members
+  members_skip a zero k m j e f none = ap₂ (members low high) (omega arith) (omega arith)
+  members_skip a (suc d) k zero j e f none = absurd (omega arith)
+  members_skip a (suc d) k (suc m) j e f none =
+      ap (λ (b : Bool). pick b (a ∷ members low high (a + 1) m) (members low high (a + 1) m)) (none a (omega arith) (omega arith))
+      ∙ members_skip (a + 1) d k m j (omega arith) (omega arith) (λ q u l. none q (omega arith) l)
 
-  kept : (q : ℕ) → j < q → in_set restLow' restHigh' q ≡ in_set low high q
-  kept q l =
-      without q ∙ and_on (in_set restLow restHigh q) (not (eqb q j)) (ap not (ne_eqb q j (λ e. omega arith))) ∙ left.same q (omega arith)
+  -- and gives what is
+  members_here : (j k m : ℕ) → m ≡ k + 1 → T (in_set low high j) → members low high j m ≡ j ∷ members low high (j + 1) k
+  unfolding members
+  members_here j k zero e t = absurd (omega arith)
+  members_here j k (suc m) e t =
+      ap (λ (b : Bool). pick b (j ∷ members low high (j + 1) m) (members low high (j + 1) m)) (is_true (in_set low high j) t) ∙ ap (λ (z : ℕ). j ∷ members low high (j + 1) z) (omega arith)
 
-  gone : (q : ℕ) → q ≤ j → in_set restLow' restHigh' q ≡ false
-  gone q l = without q ∙ step (ℕ_discrete q j)
+  members_none : (j n : ℕ) → n ≤ j → ((q : ℕ) → q < j → in_set low high q ≡ false) → members low high 0 n ≡ []
+  unfolding members
+  members_none j n h none = members_skip 0 n 0 n n (omega arith) (omega arith) (λ q u l. none q (omega arith))
+
+members_same : (low high low' high' j k : ℕ) → ((q : ℕ) → j ≤ q → in_set low high q ≡ in_set low' high' q) → members low high j k ≡ members low' high' j k
+unfolding members
+members_same low high low' high' j zero same = refl
+members_same low high low' high' j (suc k) same =
+    ap₂ (λ (b : Bool) (l : List ℕ). pick b (j ∷ l) l) (same j (omega arith)) (members_same low high low' high' (j + 1) k (λ q u. same q (omega arith)))
+
+module _ (n low high low' high' j : ℕ) (first : First n low high j) where
+  pub goes_on : j < n → Dropped low high low' high' → members low high 0 n ≡ j ∷ members low' high' 0 n
+  goes_on l drop =
+      members_skip low high 0 j (n - j) n j (omega arith) (omega arith) (λ q u h. first.none q h)
+      ∙ members_here low high j (n - j - 1) (n - j) (omega arith) (first.member l)
+      ∙ ap (λ (z : List ℕ). j ∷ z)
+      (members_same low high low' high' (j + 1) (n - j - 1) later ∙ sym (members_skip low' high' 0 (j + 1) (n - j - 1) n (j + 1) (omega arith) (omega arith) (λ q u h. gone' q h)))
     where
-      step : Dec (q ≡ j) → (in_set restLow restHigh q && not (eqb q j)) ≡ false
-      step (yes e) = and_off (in_set restLow restHigh q) (not (eqb q j)) (ap not (eq-eqb q j e))
-      step (no e) = ap (λ (b : Bool). b && not (eqb q j)) (left.next.none q (omega arith))
+      without' : (q : ℕ) → in_set low' high' q ≡ (in_set low high q && not (eqb q j))
+      without' = drop j (first.member l) first.none
 
-  later : j + 1 ≤ r
-  later = step (dec_lt j r)
-    where
-      step : Dec (j < r) → j + 1 ≤ r
-      step (yes l) = omega arith
-      step (no l) = absurd (subst T (gone r (omega arith)) (first.member (omega arith)))
+      later : (q : ℕ) → j + 1 ≤ q → in_set low high q ≡ in_set low' high' q
+      later q u = sym (without' q ∙ and_on (in_set low high q) (not (eqb q j)) (ap not (ne_eqb q j (λ e. omega arith))))
 
-  pub walked_on : Passed n low high (j + 1) r × Left n low high restLow' restHigh' r
-  walked_on =
-      let l = later in
-      ((l, (first.bound, λ q a b. sym (kept q (omega arith)) ∙ first.none q b)), record { next = first; same = λ q a. kept q (omega arith) })
+      gone' : (q : ℕ) → q < j + 1 → in_set low' high' q ≡ false
+      gone' q h = without' q ∙ step (ℕ_discrete q j)
+        where
+          step : Dec (q ≡ j) → (in_set low high q && not (eqb q j)) ≡ false
+          step (yes e) = and_off (in_set low high q) (not (eqb q j)) (ap not (eq-eqb q j e))
+          step (no e) = ap (λ (b : Bool). b && not (eqb q j)) (first.none q (omega arith))
+
+  pub goes_out : n ≤ j → members low high 0 n ≡ []
+  goes_out h = members_none low high j n h first.none

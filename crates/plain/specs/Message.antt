@@ -1,20 +1,14 @@
 -- What the calls on messages answer, and each byte that they write.
-use Rattle.std.specs.Prelude.{List, [], ◌∷◌, ◌++◌, ℕ, ltb, length, replicate}
+use Rattle.std.specs.Prelude.{List, [], ◌∷◌, ◌++◌, Result, Ok, Err, ℕ, ltb, length, replicate}
 use Rattle.base.specs.Tests.{pick}
 use Rattle.base.specs.Bytes.{bytes, part}
-use Rattle.base.specs.Refusals.{number_of}
-use Rattle.message.specs.declared.Reading.{Reading}
-use Rattle.message.specs.declared.Reading.TheVariants.{OfProposer, OfAcceptor, Refused}
-use Rattle.message.specs.declared.Written.{Written}
-use Rattle.message.specs.declared.Written.TheVariants.{Bytes, NotWritten}
+use Rattle.base.specs.declared.refusal.Refusal.{Refusal}
+use Rattle.message.specs.declared.Message.{Message}
+use Rattle.message.specs.declared.Message.TheVariants.{OfProposer, OfAcceptor}
 use Rattle.message.specs.Layout.{proposal_kind, acceptor_kind, marker, previous_at, id_len}
 use Rattle.message.specs.Reader.{reading}
 use Rattle.message.specs.Writer.{fronted}
-
--- 0, or the number of the row that turns the call down
-abbrev pub answer_of : Written → ℕ
-answer_of (Bytes n) = 0
-answer_of (NotWritten r) = number_of r
+use Rattle.plain.specs.Answers.{answer_of}
 
 -- 48 bytes: kind 1, house 2, bay 2, signer 1, ballot 8, marker 1, previous id 32, count 1
 abbrev pub row : ℕ → ℕ → ℕ → ℕ → ℕ → ℕ → List ℕ → ℕ → List ℕ
@@ -28,20 +22,15 @@ abbrev pub no_id : List ℕ
 no_id = replicate 32 0
 
 -- a buffer that the fields were written to: the ballot of an acceptor message is 0, and so are the marker, previous id and count of a proposal
-abbrev pub fields_of : List ℕ → Reading → List ℕ → List ℕ
-fields_of s (OfProposer p) buffer = fronted (row proposal_kind p.house p.bay p.proposer p.ballot 0 no_id 0) buffer
-fields_of s (OfAcceptor m) buffer =
+abbrev pub fields_of : List ℕ → Result Message Refusal → List ℕ → List ℕ
+fields_of s (Ok (OfProposer p)) buffer = fronted (row proposal_kind p.house p.bay p.proposer p.ballot 0 no_id 0) buffer
+fields_of s (Ok (OfAcceptor m)) buffer =
     fronted (row acceptor_kind m.house m.bay m.signer 0 (marker m.previous) (pick m.previous (part id_len s previous_at) no_id) m.count) buffer
-fields_of s (Refused r) buffer = buffer
-
-abbrev pub read_number : Reading → ℕ
-read_number (OfProposer p) = 0
-read_number (OfAcceptor m) = 0
-read_number (Refused r) = number_of r
+fields_of s (Err r) buffer = buffer
 
 -- 17 for a buffer under 48 bytes, before all else
 abbrev pub read_answer : List ℕ → List ℕ → ℕ
-read_answer s buffer = pick (ltb (length buffer) row_len) 17 (read_number (reading s))
+read_answer s buffer = pick (ltb (length buffer) row_len) 17 (answer_of (reading s))
 
 abbrev pub fields_to : List ℕ → List ℕ → List ℕ
 fields_to s buffer = pick (ltb (length buffer) row_len) buffer (fields_of s (reading s) buffer)

@@ -5,3 +5,18 @@
 pub mod digest_calls;
 pub mod graph_calls;
 pub mod message_calls;
+
+ghost use Rattle.std.specs.Prelude.{◌≡◌};
+ghost use Rattle.plain.specs.Answers.{answer_of};
+
+use base::refusal::Refusal;
+
+// 0, or the number of the row that turns the call down.
+fn answer<T: Copy>(r: Result<T, Refusal>) -> u32
+    ensures { result ≡ answer_of r }
+{
+    match r {
+        Ok(_) => 0,
+        Err(e) => u32::from(e),
+    }
+}

@@ -1,15 +1,16 @@
 // Messages.
-ghost use Rattle.std.specs.Prelude.{◌≡◌, ◌+◌, ◌≤◌, length};
-ghost use Rattle.message.specs.Outcomes.{IsAcceptor};
+ghost use Rattle.std.specs.Prelude.{◌≡◌, ◌≤◌, length, Ok};
+ghost use Rattle.message.specs.Reader.{reading};
 ghost use Rattle.message.specs.Writer.{fronted, meant_round, proposal_bytes, proposal_of, reference_answer, reference_to, written_to, wrote};
-ghost use Rattle.message.specs.declared.Reading.TheVariants.{OfAcceptor};
-ghost use Rattle.plain.specs.Message.{row, answer_of, fields_of, fields_to, read_answer};
+ghost use Rattle.plain.specs.Answers.{answer_of};
+ghost use Rattle.plain.specs.Message.{row, fields_of, fields_to, read_answer};
 
-use base::refusal::{Refusal, number};
+use super::answer;
+use base::refusal::Refusal;
 use base::{put_all, put8, put16, put64};
+use message::Message;
 use message::ballot::meant_round;
-use message::layout::{ACCEPTOR, ID_LEN, PREVIOUS_AT, PROPOSAL, marker_of};
-use message::{AcceptorMessage, Reading, Written};
+use message::layout::{ACCEPTOR, ID_LEN, PREVIOUS_AT, PROPOSAL};
 
 // The bytes of the fields that a message is read to.
 const ROW_LEN: usize = 48;
@@ -33,56 +34,44 @@ pub fn read_message(bytes: &[u8], fields: &mut [u8]) -> u32
     ensures { (result ≡ read_answer bytes.now fields.old) × (fields.new ≡ fields_to bytes.now fields.old) }
 {
     if fields.len() < ROW_LEN {
-        return number(Refusal::Argument);
+        return u32::from(Refusal::Argument);
     }
-    match message::read(bytes) {
-        Reading::Refused(r) => number(r),
-        Reading::OfProposer(p) => {
-            let none = [0u8; ID_LEN];
-            put_row(
-                fields, PROPOSAL, p.house, p.bay, p.proposer, p.ballot, 0, &none, 0,
-            );
-            0
-        }
-        Reading::OfAcceptor(m) => {
-            put_acceptor(bytes, m, fields);
-            0
-        }
+    let said = message::read(bytes);
+    if let Ok(m) = said {
+        put_message(bytes, m, fields);
     }
+    answer(said)
 }
 
-// The row of an acceptor message that was read from these bytes.
-fn put_acceptor(bytes: &[u8], m: AcceptorMessage, fields: &mut [u8])
-    requires { (IsAcceptor m.previous m.count bytes.now) × (48 ≤ length fields.old) }
-    ensures { fields.new ≡ fields_of bytes.now (OfAcceptor m) fields.old }
+// The row of a message that was read from these bytes.
+fn put_message(bytes: &[u8], m: Message, fields: &mut [u8])
+    requires { (reading bytes.now ≡ Ok m) × (48 ≤ length fields.old) }
+    ensures { fields.new ≡ fields_of bytes.now (Ok m) fields.old }
 {
-    let count = m.count as u8;
-    if m.previous {
-        let previous = &bytes[PREVIOUS_AT..PREVIOUS_AT + ID_LEN];
-        put_row(
-            fields,
-            ACCEPTOR,
-            m.house,
-            m.bay,
-            m.signer,
-            0,
-            marker_of(true),
-            previous,
-            count,
-        );
-    } else {
-        let none = [0u8; ID_LEN];
-        put_row(
-            fields,
-            ACCEPTOR,
-            m.house,
-            m.bay,
-            m.signer,
-            0,
-            marker_of(false),
-            &none,
-            count,
-        );
+    let mut previous = [0u8; ID_LEN];
+    match m {
+        Message::OfProposer(p) => {
+            put_row(
+                fields, PROPOSAL, p.house, p.bay, p.proposer, p.ballot, 0, &previous, 0,
+            );
+        }
+        Message::OfAcceptor(a) => {
+            if a.previous {
+                previous.copy_from_slice(&bytes[PREVIOUS_AT..PREVIOUS_AT + ID_LEN]);
+            }
+            let marker = u8::from(a.previous);
+            put_row(
+                fields,
+                ACCEPTOR,
+                a.house,
+                a.bay,
+                a.signer,
+                0,
+                marker,
+                &previous,
+                a.count as u8,
+            );
+        }
     }
 }
 
@@ -129,14 +118,4 @@ pub fn write_proposal(
     ensures { (result ≡ answer_of (wrote (proposal_bytes (proposal_of house bay proposer (meant_round round) value)) message.old)) × (message.new ≡ written_to (proposal_bytes (proposal_of house bay proposer (meant_round round) value)) message.old) }
 {
     answer(message::write_proposal(house, bay, proposer, meant_round(round), value, message))
-}
-
-// 0, or the number of the row that turns the call down.
-fn answer(w: Written) -> u32
-    ensures { result ≡ answer_of w }
-{
-    match w {
-        Written::Bytes(_) => 0,
-        Written::NotWritten(r) => number(r),
-    }
 }

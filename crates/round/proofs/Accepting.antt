@@ -7,14 +7,15 @@ use Prim.Native.Nat.{ℕ, zero, suc, ◌+◌, ◌<◌, ◌≤◌}
 use native.Mathlib.Omega.{arith}
 use lib.Dec.{T, le→leb}
 use lib.ListN.{length, length-map}
+use Rattle.std.specs.Prelude.{Ok, Err}
 use Rattle.base.specs.Tests.{◌∈◌}
 use Rattle.base.specs.declared.refusal.Refusal.{Refusal}
 use Rattle.message.specs.Layout as layout
 use Rattle.message.specs.Reader.{reading}
 use Rattle.message.specs.declared.Proposal.{Proposal}
 use Rattle.message.specs.declared.AcceptorMessage.{AcceptorMessage}
-use Rattle.message.specs.declared.Reading.{Reading}
-use Rattle.message.specs.declared.Reading.TheVariants.{OfProposer, OfAcceptor, Refused}
+use Rattle.round.specs.Outcomes.{Reading}
+use Rattle.message.specs.declared.Message.TheVariants.{OfProposer, OfAcceptor}
 use Rattle.protocol.specs.Ids.{Id}
 use Rattle.protocol.specs.Message.{is_proposal, previous, is1b}
 use Rattle.protocol.specs.WellFormed.{linked, chained, formed1b}
@@ -31,7 +32,8 @@ use Rattle.round.proofs.Written.{counted}
 use Rattle.round.proofs.Records.{table_ids}
 use Rattle.round.proofs.Marking.{previous_fits, previous_named}
 use Rattle.round.proofs.Passing.{Fresh, Passed, proposal_passed, acceptor_passed}
-use Rattle.round.proofs.Arriving.{all_known, not_not, places_of, Refers, referred, refers_back_lem, chain_placed, links}
+use Rattle.std.proofs.Math.Facts.{T_not-not}
+use Rattle.round.proofs.Arriving.{all_known, places_of, Refers, referred, refers_back_lem, chain_placed, links}
 use Rattle.round.proofs.Answering.{acceptor_readable}
 
 pub record Accepts (H : List ℕ → Id) (r : Round) (b : List ℕ) (h : Held) : Type 0 where
@@ -42,12 +44,12 @@ pub record Accepts (H : List ℕ → Id) (r : Round) (b : List ℕ) (h : Held) :
   pub linked' : T (chained (node_by (tree (table_of r)) h))
   pub forms : T (formed1b (node_by (tree (table_of r)) h))
 
-proposer_readable : (x : Reading) (m : Proposal) → x ≡ OfProposer m → (e : Refusal) → x ≢ Refused e
+proposer_readable : (x : Reading) (m : Proposal) → x ≡ Ok (OfProposer m) → (e : Refusal) → x ≢ Err e
 proposer_readable x m q e k = let z : ◌≡◌ {A = ℕ} 0 1 = cc in omega arith
 
 module _ (H : List ℕ → Id) (rule : IdRule H) (r : Round) (most : r.held ≤ max_held) (b : List ℕ) where
   -- ---- a proposal
-  pub proposal_accepts : (m : Proposal) → reading b ≡ OfProposer m → first_of (proposal_rows r (H b) m) ≡ none → Accepts H r b (offers (H b) m.proposer m.ballot)
+  pub proposal_accepts : (m : Proposal) → reading b ≡ Ok (OfProposer m) → first_of (proposal_rows r (H b) m) ≡ none → Accepts H r b (offers (H b) m.proposer m.ballot)
   unfolding held_id held_previous places offered content_of chained linked previous node_by formed1b is1b is_proposal
   proposal_accepts m e f =
       record {
@@ -79,7 +81,7 @@ module _ (H : List ℕ → Id) (rule : IdRule H) (r : Round) (most : r.held ≤ 
   length_ids zero at = refl
   length_ids (suc n) at = ap suc (length_ids n (at + layout.id_len))
 
-  module _ (m : AcceptorMessage) (reads : reading b ≡ OfAcceptor m) where
+  module _ (m : AcceptorMessage) (reads : reading b ≡ Ok (OfAcceptor m)) where
     abbrev ids : List Id
     ids = reference_ids b m
 
@@ -131,7 +133,7 @@ module _ (H : List ℕ → Id) (rule : IdRule H) (r : Round) (most : r.held ≤ 
             };
             beneath = λ j k. let (i, q, t) = refers j k in t;
             linked' = links r (H b) m.signer (previous_id b m) ids passed.chains;
-            forms = not_not (formed1b (message_of r h)) passed.forms;
+            forms = T_not-not (formed1b (message_of r h)) passed.forms;
           }
 
     pub acceptor_accepts : first_of (acceptor_rows r (H b) m (previous_id b m) ids (message_of r h)) ≡ none → Accepts H r b h

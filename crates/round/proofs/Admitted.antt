@@ -7,6 +7,7 @@ use Prim.Native.Nat.{ℕ, ◌<◌}
 use native.Mathlib.Omega.{arith}
 use lib.Dec.{T, eqb, ltb, leb→le, ltb→lt, not_T}
 use lib.ListN.{length}
+use Rattle.std.specs.Prelude.{Ok, None}
 use Rattle.base.specs.Tests.{pick}
 use Rattle.base.specs.declared.refusal.Refusal.{Refusal}
 use Rattle.base.specs.declared.refusal.Refusal.TheVariants.{Argument}
@@ -19,20 +20,19 @@ use Rattle.protocol.specs.Message.{Message}
 use Rattle.protocol.specs.WellFormed.{formed1b, formed2a}
 use Rattle.protocol.specs.Table.{Held, offers}
 use Rattle.round.specs.Round.{Round}
-use Rattle.round.specs.declared.Outcome.TheVariants as outcome
 use Rattle.round.specs.Limits.{reply_len}
 use Rattle.round.specs.Holdings.{graph_of, is_voting, place_of}
 use Rattle.round.specs.Handed.{fits}
 use Rattle.round.specs.Rows.{reference_ids, previous_id, other_round, foreign, is_known_id, lacks, unchained, vote_record, message_of, room, full, proposal_rows, acceptor_rows, first_of}
 use Rattle.round.specs.Reply.{reply_bytes, reply_record, is_sent}
-use Rattle.round.specs.Delivery.{Result, refused, sent, joins, answered, processed, hold, returned, entered, decided_by, taken, delivery}
+use Rattle.round.specs.Delivery.{Effect, refused, sent, joins, answered, processed, hold, returned, entered, decided_by, taken, delivery}
 use Rattle.round.specs.ShutOut.{Handed, ProposalAccepted, VoteAccepted}
 use Rattle.round.proofs.OneDelivery.{Kept}
 use Rattle.round.proofs.OneCall.{accepted_refused, replied_refused}
 use Rattle.round.proofs.Answers.{number_taken}
 
 -- ---- a message that is entered is not refused
-kept_pick : (b : Bool) (x y : Result) → Kept x → Kept y → Kept (pick b x y)
+kept_pick : (b : Bool) (x y : Effect) → Kept x → Kept y → Kept (pick b x y)
 kept_pick true x y f g = f
 kept_pick false x y f g = g
 
@@ -41,7 +41,7 @@ module _ (H : List ℕ → Id) where
   unfolding processed
   processed_kept s p =
       let z = reply_bytes s p in
-      kept_pick (is_voting s) (answered H s p z) (record { outcome = outcome.Accepted; round = s; reply = [] })
+      kept_pick (is_voting s) (answered H s p z) (record { outcome = Ok None; round = s; reply = [] })
       (kept_pick (is_sent s (message_of s (reply_record s (H z) p))) (sent H s p z) (joins H s p) (λ e. replied_refused (length z) e) (λ e. accepted_refused e))
       (λ e. accepted_refused e)
 

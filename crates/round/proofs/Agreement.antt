@@ -6,6 +6,9 @@ use mathlib.Core.List.Memᴰ
 use mathlib.Core.List.{List, ◌++◌}
 use Prim.Native.Nat.{ℕ, ◌<◌}
 use lib.Dec.{not_T}
+use Rattle.std.specs.Prelude.{Result, Ok}
+use Rattle.base.specs.declared.refusal.Refusal.{Refusal}
+use Rattle.graph.specs.declared.Graph.{Graph}
 use Rattle.base.specs.Tests.{◌∈◌}
 use Rattle.base.specs.Ballots.{value_of}
 use Rattle.graph.specs.LearnerGraph.{LearnerGraph}
@@ -98,7 +101,10 @@ module _ (laws : CallLaws) (H : List ℕ → Id) (rule : IdRule H) (file : List 
   InAll c v = Reports (graph_of rA) M c v
 
   one_graph : graph_of rB ≡ graph_of rA
-  one_graph = ap view_of ((laws.opening file house bay ownB rB startsB).graph ∙ sym (laws.opening file house bay ownA rA startsA).graph)
+  one_graph =
+      let e : ◌≡◌ {A = Result Graph Refusal} (Ok rB.graph) (Ok rA.graph) = sym (laws.opening file house bay ownB rB startsB).graph ∙ (laws.opening file house bay ownA rA startsA).graph in
+      let same : rB.graph ≡ rA.graph = cc in
+      ap view_of same
 
   in_mA : Within (messages (table_of end_a) (known_places end_a)) M
   in_mA m i = Memᴰ.append_left (messages (table_of end_b) (known_places end_b)) i

@@ -10,6 +10,7 @@ use Prim.Native.Nat.{ℕ, ◌<◌, ◌≤◌}
 use native.Mathlib.Omega.{arith}
 use lib.Dec.{T, eqb, ltb, eqb→eq, eqb_refl, T_not, not_T}
 use lib.ListN.{length, get_or}
+use Rattle.std.specs.Prelude.{Ok, Some, None}
 use Rattle.base.specs.Tests.{◌∈◌, pick, any, all}
 use Rattle.base.proofs.Tests.{and_in, or_l, or_r, any_in, all_in, dec_T, neqb→ne, ne→neqb}
 use Rattle.message.specs.declared.Proposal.{Proposal}
@@ -25,12 +26,11 @@ use Rattle.protocol.proofs.Places.{is1b_at_lem}
 use Rattle.protocol.proofs.Table.{tree_is, tree_proposal, reach_cases, reach_le, reach_self, reach_step, tran_places}
 use Rattle.protocol.proofs.Growth.{at_append, at_end, tree_end, ordered_snoc}
 use Rattle.round.specs.Round.{Round}
-use Rattle.round.specs.declared.Outcome.TheVariants as outcome
 use Rattle.round.specs.Limits.{max_held, acceptor_room, listening}
 use Rattle.round.specs.Holdings.{graph_of, is_voting, id_at, is_recent, is_proposal_at, signer_at, previous_at, references_at, record_at, table_of, is_known, place_of}
 use Rattle.round.specs.Rows.{placed, is_known_id, is_awaited, message_of, proposal_rows, first_of}
 use Rattle.round.specs.Reply.{reply_places, reply_bytes, reply_record, is_sent}
-use Rattle.round.specs.Delivery.{Result, sent, joins, processed, hold, entered, decided_by, taken, delivery}
+use Rattle.round.specs.Delivery.{Effect, sent, joins, processed, hold, entered, decided_by, taken, delivery}
 use Rattle.round.specs.Premises.{Typed}
 use Rattle.round.specs.ShutOut.{NewBallotAnswered}
 use Rattle.round.proofs.Step.{Appends}
@@ -125,7 +125,7 @@ unfolding held_ballot
 pick_ballot true i s x y o l pos h = h tt
 pick_ballot false i s x y o l pos h = pos
 
-pick_both : (a b : Bool) (x y w : Result) → T a → T b → (pick a (pick b x y) w).outcome ≡ x.outcome
+pick_both : (a b : Bool) (x y w : Effect) → T a → T b → (pick a (pick b x y) w).outcome ≡ x.outcome
 pick_both true true x y w h k = refl
 pick_both true false x y w h k = absurd k
 pick_both false b x y w h k = absurd h
@@ -224,10 +224,10 @@ module _ (H : List ℕ → Id) (r : Round) (typed : Typed r) (fit : Fitting r) (
         (formed2a_law (graph_of s) m).1 (λ two. absurd (T_not (is2a m) (not_2a u r.held (length (table_of s)) f.ballot tops) two)),
       )))
 
-  answers : (processed H s r.held).outcome ≡ outcome.Replied (length z)
+  answers : (processed H s r.held).outcome ≡ Ok (Some (length z))
   unfolding processed
   answers =
-      pick_both (is_voting s) (is_sent s (message_of s vote)) (sent H s r.held z) (joins H s r.held) (record { outcome = outcome.Accepted; round = s; reply = [] })
+      pick_both (is_voting s) (is_sent s (message_of s vote)) (sent H s r.held z) (joins H s r.held) (record { outcome = Ok None; round = s; reply = [] })
       (subst (λ (n : ℕ). T (ltb n listening)) (hold_same r typed fit fits_in h acc.storable 1).own voting) is_sent_lem
 
 -- there is room, and the id is not known
@@ -244,4 +244,4 @@ new_ballot_answered H rule r typed voting b buffer f ok reads house bay new free
     let acc = proposal_accepts H rule r fit.most b f reads passes in
     let enters : delivery H r b buffer ≡ processed H (hold r h 1) r.held =
     handed H r b buffer ok ∙ ap (taken H r b) reads ∙ ap (decided_by H r (H b) h) passes ∙ ap (entered H r h) new in
-    number_replied (delivery H r b buffer).outcome (length (reply_bytes (hold r h 1) r.held)) (ap (λ (d : Result). d.outcome) enters ∙ answers H r typed fit voting b f acc new free lower)
+    number_replied (delivery H r b buffer).outcome (length (reply_bytes (hold r h 1) r.held)) (ap (λ (d : Effect). d.outcome) enters ∙ answers H r typed fit voting b f acc new free lower)

@@ -9,23 +9,23 @@ use native.Mathlib.Omega.{arith}
 use lib.Dec.{T, le→leb}
 use lib.ListN.{length, set, replicate, length-set}
 use borrow.Author.Tests.{ne_eqb}
+use Rattle.std.specs.Prelude.{Err, Ok, Some, None}
 use Rattle.base.specs.Tests.{pick}
 use Rattle.base.specs.declared.refusal.Refusal.{Refusal}
 use Rattle.message.specs.Reader.{reading}
 use Rattle.message.specs.declared.AcceptorMessage.{AcceptorMessage}
-use Rattle.message.specs.declared.Reading.{Reading}
-use Rattle.message.specs.declared.Reading.TheVariants.{OfAcceptor, Refused}
+use Rattle.round.specs.Outcomes.{Reading}
+use Rattle.message.specs.declared.Message.TheVariants.{OfAcceptor}
 use Rattle.protocol.specs.Ids.{Id}
 use Rattle.protocol.specs.Message.{Message}
 use Rattle.protocol.specs.WellFormed.{well_formed}
 use Rattle.protocol.specs.Table.{Held, held_id, held_previous, offered, places, joint, content_of}
 use Rattle.round.specs.Round.{Round}
-use Rattle.round.specs.declared.Outcome.TheVariants as outcome
 use Rattle.round.specs.Limits.{max_held, no_place}
 use Rattle.round.specs.Holdings.{graph_of, is_voting, id_at, named, table_of}
 use Rattle.round.specs.Rows.{message_of}
 use Rattle.round.specs.Reply.{reply_places, reply_bytes, reply_record, is_sent}
-use Rattle.round.specs.Delivery.{Result, hold, with_recent, recent_with, sent, joins, answered, processed}
+use Rattle.round.specs.Delivery.{Effect, hold, with_recent, recent_with, sent, joins, answered, processed}
 use Rattle.round.specs.Premises.{IdRule, Typed}
 use Rattle.round.specs.Demands.{ReplySays}
 use Rattle.round.proofs.Step.{content_read, content_in, Records, Same, Appends, Silent, Sends}
@@ -44,25 +44,25 @@ unfolding is_sent
 sent_law r z = refl
 
 -- bytes that are read as an acceptor message are not refused
-pub acceptor_readable : (x : Reading) (m : AcceptorMessage) → x ≡ OfAcceptor m → (e : Refusal) → x ≢ Refused e
+pub acceptor_readable : (x : Reading) (m : AcceptorMessage) → x ≡ Ok (OfAcceptor m) → (e : Refusal) → x ≢ Err e
 acceptor_readable x m q e k = let z : ◌≡◌ {A = ℕ} 0 1 = cc in omega arith
 
 -- what a reply of r says, as an answer to the message with the id m
-abbrev pub Speaks : Round → Id → Result → Type 0
-Speaks r m d = (n : ℕ) → d.outcome ≡ outcome.Replied n → ReplySays r m d.reply
+abbrev pub Speaks : Round → Id → Effect → Type 0
+Speaks r m d = (n : ℕ) → d.outcome ≡ Ok (Some n) → ReplySays r m d.reply
 
-mute : (r : Round) (m : Id) (d : Result) → d.outcome ≡ outcome.Accepted → Speaks r m d
+mute : (r : Round) (m : Id) (d : Effect) → d.outcome ≡ Ok None → Speaks r m d
 mute r m d e n k = let z : ◌≡◌ {A = ℕ} 0 1 = cc in absurd (omega arith)
 
 -- s holds the message at place p
-pub record Answers (H : List ℕ → Id) (s : Round) (p : ℕ) (d : Result) : Type 0 where
+pub record Answers (H : List ℕ → Id) (s : Round) (p : ℕ) (d : Effect) : Type 0 where
   pub answers : Silent s d.round d.outcome d.reply ⊎ Sends H s d.round d.outcome d.reply
   pub typed : Typed d.round
   pub fitting : Fitting d.round
   pub speaks : Speaks s (id_at s p) d
   pub recent : RecentHolds s → RecentHolds d.round
 
-pick_answers : (H : List ℕ → Id) (s : Round) (p : ℕ) (b : Bool) (x y : Result) → (T b → Answers H s p x) → Answers H s p y → Answers H s p (pick b x y)
+pick_answers : (H : List ℕ → Id) (s : Round) (p : ℕ) (b : Bool) (x y : Effect) → (T b → Answers H s p x) → Answers H s p y → Answers H s p (pick b x y)
 pick_answers H s p true x y f g = f tt
 pick_answers H s p false x y f g = g
 
@@ -71,13 +71,13 @@ same_round : (s : Round) → Same s s
 same_round s = record { graph = refl; house = refl; bay = refl; own = refl }
 
 module _ (H : List ℕ → Id) (s : Round) (typed : Typed s) (fit : Fitting s) (p : ℕ) (here : p < s.held) where
-  quiet : Answers H s p (record { outcome = outcome.Accepted; round = s; reply = [] })
+  quiet : Answers H s p (record { outcome = Ok None; round = s; reply = [] })
   quiet =
       record {
         answers = inl (record { outcome = refl; nothing = refl; held = refl; table = refl; known = λ q l. refl; same = same_round s; last = refl });
         typed = typed;
         fitting = fit;
-        speaks = mute s (id_at s p) (record { outcome = outcome.Accepted; round = s; reply = [] }) refl;
+        speaks = mute s (id_at s p) (record { outcome = Ok None; round = s; reply = [] }) refl;
         recent = λ inv. inv;
       }
 
@@ -172,7 +172,7 @@ module _ (H : List ℕ → Id) (rule : IdRule H) (s : Round) (typed : Typed s) (
 pub processing : (H : List ℕ → Id) → IdRule H → (s : Round) → Typed s → Fitting s → (T (is_voting s) → s.held < max_held) → (p : ℕ) → p < s.held → Answers H s p (processed H s p)
 unfolding processed
 processing H rule s typed fit room p here =
-    pick_answers H s p (is_voting s) (answered H s p (reply_bytes s p)) (record { outcome = outcome.Accepted; round = s; reply = [] })
+    pick_answers H s p (is_voting s) (answered H s p (reply_bytes s p)) (record { outcome = Ok None; round = s; reply = [] })
     (λ v. pick_answers H s p (is_sent s (message_of s (reply_record s (H (reply_bytes s p)) p))) (sent H s p (reply_bytes s p)) (joins H s p)
     (λ t. sends H rule s typed fit v (room v) p here t)
     (joined_recent H s typed fit p here))

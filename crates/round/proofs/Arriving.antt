@@ -1,10 +1,11 @@
 -- A message to which no row applies: its record, with references that are known and named by their ids, linked and well-formed.
 use mathlib.Core.Path.{◌≡◌, refl, sym, ap, subst, ◌∙◌}
-use mathlib.Core.Bool.{Bool, true, false, not, ◌&&◌}
+use mathlib.Core.Bool.{Bool, not, ◌&&◌}
 use mathlib.Core.Option.{Option, none, some}
 use mathlib.Core.List.{List, [], ◌∷◌, map}
 use Prim.Native.Nat.{ℕ, ◌<◌}
 use lib.Dec.{T, eqb, eqb→eq}
+use Rattle.std.proofs.Math.Facts.{T_not-not}
 use Rattle.base.specs.Tests.{◌∈◌, any, all}
 use Rattle.base.proofs.Tests.{and_in, and_l, and_r, any_in, any_out, all_out, map_in, map_out, eq→eqb}
 use Rattle.protocol.specs.Ids.{Id, same_id}
@@ -26,10 +27,6 @@ pub placed_out : (f : ℕ → Bool) (o : Option ℕ) → T (placed f o) → (p :
 placed_out f none h = absurd h
 placed_out f (some p) h = (p, refl, h)
 
-pub not_not : (b : Bool) → T (not (not b)) → T b
-not_not true h = tt
-not_not false h = h
-
 module _ (r : Round) where
   abbrev pub places_of : List Id → List ℕ
   places_of ids = map (λ i. or_zero (place_of r i)) ids
@@ -46,7 +43,7 @@ module _ (r : Round) where
 
   pub all_known : (ids : List Id) → T (not (lacks r ids)) → T (all (is_known_id r) ids)
   unfolding lacks
-  all_known ids h = not_not (all (is_known_id r) ids) h
+  all_known ids h = T_not-not (all (is_known_id r) ids) h
 
   pub referred : (ids : List Id) → T (all (is_known_id r) ids) → (j : ℕ) → j ∈ places_of ids → Refers j
   referred ids h j m =
@@ -68,7 +65,7 @@ module _ (r : Round) where
   chain_place : (s : ℕ) (ids : List Id) (i : Id) → T (not (unchained r s ids (some i))) → (i ∈ ids) × ((p : ℕ) × (place_of r i ≡ some p) × T (is_vote_of r s p))
   unfolding unchained
   chain_place s ids i h =
-      let both = not_not (any (same_id i) ids && placed (is_vote_of r s) (place_of r i)) h in
+      let both = T_not-not (any (same_id i) ids && placed (is_vote_of r s) (place_of r i)) h in
       let (x, m, e) = any_out (same_id i) ids (and_l (any (same_id i) ids) (placed (is_vote_of r s) (place_of r i)) both) in
       (subst (λ (y : Id). y ∈ ids) (sym ((same_id_law i x).0 e)) m, placed_out (is_vote_of r s) (place_of r i) (and_r (any (same_id i) ids) (placed (is_vote_of r s) (place_of r i)) both))
 

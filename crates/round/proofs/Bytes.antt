@@ -5,13 +5,14 @@ use mathlib.Core.List.{List}
 use Prim.Native.Nat.{ℕ, ◌<◌}
 use native.Mathlib.Omega.{arith}
 use lib.Dec.{T, leb, nleb→lt}
+use Rattle.std.specs.Prelude.{Ok, Err}
 use Rattle.base.specs.Tests.{pick}
 use Rattle.base.specs.declared.refusal.Refusal.TheVariants.{Argument}
 use Rattle.message.specs.Reader.{reading}
 use Rattle.message.specs.declared.Proposal.{Proposal}
 use Rattle.message.specs.declared.AcceptorMessage.{AcceptorMessage}
-use Rattle.message.specs.declared.Reading.{Reading}
-use Rattle.message.specs.declared.Reading.TheVariants.{OfProposer, OfAcceptor, Refused}
+use Rattle.round.specs.Outcomes.{Reading}
+use Rattle.message.specs.declared.Message.TheVariants.{OfProposer, OfAcceptor}
 use Rattle.protocol.specs.Message.{Message, proposed}
 use Rattle.protocol.specs.Report.{Verdict, undecided, decided, split}
 use Rattle.protocol.specs.Report as protocol
@@ -27,20 +28,20 @@ use Rattle.round.proofs.Step.{content_read, content_in, Readable}
 -- ---- the bytes m of a record h over a table
 -- an acceptor message
 pub vote_read : (t : Table) (h : Held) (m : List ℕ) → T (not (offered h)) → Readable m → content_of t h ≡ content_in m
-    → (f : AcceptorMessage) × (reading m ≡ OfAcceptor f) × (f.signer ≡ held_signer h) × (previous_id m f ≡ held_previous h)
+    → (f : AcceptorMessage) × (reading m ≡ Ok (OfAcceptor f)) × (f.signer ≡ held_signer h) × (previous_id m f ≡ held_previous h)
 unfolding content_of held_signer held_previous offered
 vote_read t (offers i s b) m is readable e = absurd is
 vote_read t (says i s p l) m is readable e = step (reading m) refl
   where
-    step : (x : Reading) → reading m ≡ x → (f : AcceptorMessage) × (reading m ≡ OfAcceptor f) × (f.signer ≡ s) × (previous_id m f ≡ p)
-    step (OfProposer f) d =
+    step : (x : Reading) → reading m ≡ x → (f : AcceptorMessage) × (reading m ≡ Ok (OfAcceptor f)) × (f.signer ≡ s) × (previous_id m f ≡ p)
+    step (Ok (OfProposer f)) d =
         let both : joint s p (ids_at t l) ≡ plain f.proposer f.ballot = e ∙ ap (content_read m) d in
         let z : ◌≡◌ {A = ℕ} 0 1 = cc in
         absurd (omega arith)
-    step (OfAcceptor f) d =
+    step (Ok (OfAcceptor f)) d =
         let both : joint s p (ids_at t l) ≡ joint f.signer (previous_id m f) (reference_ids m f) = e ∙ ap (content_read m) d in
         (f, d, cc, cc)
-    step (Refused r) d = absurd (readable r d)
+    step (Err r) d = absurd (readable r d)
 
 -- a proposal
 unfoldable pub held_ballot : Held → ℕ
@@ -53,34 +54,34 @@ node_proposed f (offers i s b) = refl
 node_proposed f (says i s p l) = refl
 
 pub proposal_read : (t : Table) (h : Held) (m : List ℕ) → T (offered h) → Readable m → content_of t h ≡ content_in m
-    → (f : Proposal) × (reading m ≡ OfProposer f) × (f.ballot ≡ held_ballot h)
+    → (f : Proposal) × (reading m ≡ Ok (OfProposer f)) × (f.ballot ≡ held_ballot h)
 unfolding content_of held_ballot offered
 proposal_read t (says i s p l) m is readable e = absurd is
 proposal_read t (offers i s b) m is readable e = step (reading m) refl
   where
-    step : (x : Reading) → reading m ≡ x → (f : Proposal) × (reading m ≡ OfProposer f) × (f.ballot ≡ b)
-    step (OfProposer f) d = let both : plain s b ≡ plain f.proposer f.ballot = e ∙ ap (content_read m) d in (f, d, cc)
-    step (OfAcceptor f) d =
+    step : (x : Reading) → reading m ≡ x → (f : Proposal) × (reading m ≡ Ok (OfProposer f)) × (f.ballot ≡ b)
+    step (Ok (OfProposer f)) d = let both : plain s b ≡ plain f.proposer f.ballot = e ∙ ap (content_read m) d in (f, d, cc)
+    step (Ok (OfAcceptor f)) d =
         let both : plain s b ≡ joint f.signer (previous_id m f) (reference_ids m f) = e ∙ ap (content_read m) d in
         let z : ◌≡◌ {A = ℕ} 0 1 = cc in
         absurd (omega arith)
-    step (Refused r) d = absurd (readable r d)
+    step (Err r) d = absurd (readable r d)
 
 -- ---- the answer of a report
-told_decided : (t : Bool) (v : Verdict) (x : ℕ) → pick t (answer.Refused Argument) (told v) ≡ answer.Decided x → T (not t) × (v ≡ decided x)
+told_decided : (t : Bool) (v : Verdict) (x : ℕ) → pick t (Err Argument) (Ok (told v)) ≡ Ok (answer.Decided x) → T (not t) × (v ≡ decided x)
 told_decided true v x e = let z : ◌≡◌ {A = ℕ} 0 1 = cc in absurd (omega arith)
 told_decided false undecided x e = let z : ◌≡◌ {A = ℕ} 0 1 = cc in absurd (omega arith)
 told_decided false (decided y) x e = (tt, cc)
 told_decided false (split y w) x e = let z : ◌≡◌ {A = ℕ} 0 1 = cc in absurd (omega arith)
 
-told_split : (t : Bool) (v : Verdict) (x y : ℕ) → pick t (answer.Refused Argument) (told v) ≡ answer.Split x y → v ≡ split x y
+told_split : (t : Bool) (v : Verdict) (x y : ℕ) → pick t (Err Argument) (Ok (told v)) ≡ Ok (answer.Split x y) → v ≡ split x y
 told_split true v x y e = let z : ◌≡◌ {A = ℕ} 0 1 = cc in absurd (omega arith)
 told_split false undecided x y e = let z : ◌≡◌ {A = ℕ} 0 1 = cc in absurd (omega arith)
 told_split false (decided w) x y e = let z : ◌≡◌ {A = ℕ} 0 1 = cc in absurd (omega arith)
 told_split false (split w v) x y e = cc
 
 module _ (r : Round) (a : ℕ) where
-  pub decided_report : (x : ℕ) → reported r a ≡ answer.Decided x → (a < r.graph.learners) × (protocol.report (graph_of r) (known_messages r) a ≡ decided x)
+  pub decided_report : (x : ℕ) → reported r a ≡ Ok (answer.Decided x) → (a < r.graph.learners) × (protocol.report (graph_of r) (known_messages r) a ≡ decided x)
   unfolding reported
   decided_report x e =
       let (t, d) = told_decided (not (fits r) || leb r.graph.learners a) (protocol.report (graph_of r) (known_messages r) a) x e in
@@ -90,6 +91,6 @@ module _ (r : Round) (a : ℕ) where
       second true q h = absurd h
       second false q h = h
 
-  pub split_report : (x y : ℕ) → reported r a ≡ answer.Split x y → protocol.report (graph_of r) (known_messages r) a ≡ split x y
+  pub split_report : (x y : ℕ) → reported r a ≡ Ok (answer.Split x y) → protocol.report (graph_of r) (known_messages r) a ≡ split x y
   unfolding reported
   split_report x y e = told_split (not (fits r) || leb r.graph.learners a) (protocol.report (graph_of r) (known_messages r) a) x y e

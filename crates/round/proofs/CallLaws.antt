@@ -5,13 +5,13 @@ use mathlib.Core.Option.{none}
 use mathlib.Core.List.{List}
 use Prim.Native.Nat.{ℕ, ◌<◌}
 use lib.Dec.{T}
+use Rattle.std.specs.Prelude.{Ok, Err}
 use Rattle.graphfile.specs.Arrays.{reading_of}
 use Rattle.base.specs.declared.refusal.Refusal.{Refusal}
 use Rattle.protocol.specs.Ids.{Id}
 use Rattle.protocol.specs.Equations.{Peopled}
 use Rattle.protocol.specs.Theorems.{SoundGraph}
 use Rattle.round.specs.Round.{Round}
-use Rattle.round.specs.declared.Outcome.TheVariants as outcome
 use Rattle.round.specs.Holdings.{graph_of, named}
 use Rattle.round.specs.Handed.{fits}
 use Rattle.round.specs.Delivery.{delivered, replied}
@@ -22,7 +22,7 @@ use Rattle.round.proofs.Step.{StepLaw}
 pub record Fresh (file : List ℕ) (r : Round) : Type 0 where
   pub typed : Typed r
   pub fitting : T (fits r)
-  pub graph : r.graph ≡ (reading_of file).graph
+  pub graph : reading_of file ≡ Ok r.graph
   pub sound : SoundGraph (graph_of r)
   pub peopled : (a : ℕ) → a < r.graph.learners → Peopled (graph_of r) a
   pub empty : r.held ≡ 0
@@ -34,5 +34,5 @@ OpeningLaw = (file : List ℕ) (house bay own : ℕ) (r : Round) → Starts file
 pub record CallLaws : Type 0 where
   pub opening : OpeningLaw
   pub step : StepLaw
-  pub refusal : (H : List ℕ → Id) (r : Round) (b buffer : List ℕ) (e : Refusal) → (delivered H r b buffer).outcome ≡ outcome.Refused e
+  pub refusal : (H : List ℕ → Id) (r : Round) (b buffer : List ℕ) (e : Refusal) → (delivered H r b buffer).outcome ≡ Err e
       → ((delivered H r b buffer).round ≡ r) × (replied H r b buffer ≡ buffer)

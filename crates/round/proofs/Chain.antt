@@ -8,20 +8,20 @@ use mathlib.Core.List.{List, [], ◌∷◌}
 use Prim.Native.Nat.{ℕ}
 use native.Mathlib.Omega.{arith}
 use lib.ListN.{length, take}
+use Rattle.std.specs.Prelude.{Ok, Err, Some, None}
 use Rattle.base.specs.Tests.{◌∈◌}
 use Rattle.base.specs.declared.refusal.Refusal.{Refusal}
 use Rattle.message.specs.Reader.{reading}
 use Rattle.message.specs.Writer.{fronted}
 use Rattle.message.specs.declared.AcceptorMessage.{AcceptorMessage}
-use Rattle.message.specs.declared.Reading.TheVariants.{OfAcceptor}
+use Rattle.message.specs.declared.Message.TheVariants.{OfAcceptor}
 use Rattle.protocol.specs.Ids.{Id}
 use Rattle.protocol.specs.Theorems.{Within}
 use Rattle.round.specs.Round.{Round}
-use Rattle.round.specs.declared.Outcome.{Outcome}
-use Rattle.round.specs.declared.Outcome.TheVariants as outcome
+use Rattle.round.specs.Outcomes.{Outcome}
 use Rattle.round.specs.Holdings.{named}
 use Rattle.round.specs.Rows.{previous_id}
-use Rattle.round.specs.Delivery.{Result, delivery, replied}
+use Rattle.round.specs.Delivery.{Effect, delivery, replied}
 use Rattle.round.specs.Answers.{outcome_number}
 use Rattle.round.specs.Lists.{Call, deliver, report, run, written}
 use Rattle.round.specs.Premises.{IdRule, Starts, Typed}
@@ -34,20 +34,20 @@ use Rattle.round.proofs.Lists.{refused_or_not, reply_in_front_lem}
 
 -- ---- what one call adds to the written messages `rest` of the calls behind it. p is last sent before the call, q after it.
 module _ (H : List ℕ → Id) (p q : Option Id) (rest : List (List ℕ)) (chain : ChainFrom H q rest) where
-  chain_refused : (o : Outcome) (e : Refusal) (buffer : List ℕ) → o ≡ outcome.Refused e → q ≡ p → ChainFrom H p (written_by buffer rest (outcome_number o))
+  chain_refused : (o : Outcome) (e : Refusal) (buffer : List ℕ) → o ≡ Err e → q ≡ p → ChainFrom H p (written_by buffer rest (outcome_number o))
   chain_refused o e buffer d s = subst (ChainFrom H p) (sym (written_refused buffer rest o e d)) (subst (λ (n : Option Id). ChainFrom H n rest) s chain)
 
-  chain_silent : (o : Outcome) (buffer : List ℕ) → o ≡ outcome.Accepted → q ≡ p → ChainFrom H p (written_by buffer rest (outcome_number o))
+  chain_silent : (o : Outcome) (buffer : List ℕ) → o ≡ Ok None → q ≡ p → ChainFrom H p (written_by buffer rest (outcome_number o))
   chain_silent o buffer d s = subst (ChainFrom H p) (sym (written_silent buffer rest o d)) (subst (λ (n : Option Id). ChainFrom H n rest) s chain)
 
-  chain_sends : (o : Outcome) (z buffer : List ℕ) → o ≡ outcome.Replied (length z) → q ≡ some (H z) → Names z p → ChainFrom H p (written_by (fronted z buffer) rest (outcome_number o))
+  chain_sends : (o : Outcome) (z buffer : List ℕ) → o ≡ Ok (Some (length z)) → q ≡ some (H z) → Names z p → ChainFrom H p (written_by (fronted z buffer) rest (outcome_number o))
   unfolding ChainFrom
   chain_sends o z buffer d s names =
       let front : z ≡ take (length z) (fronted z buffer) = sym (reply_in_front_lem z buffer) in
       let whole : ChainFrom H p (z ∷ rest) = (names, subst (λ (n : Option Id). ChainFrom H n rest) s chain) in
       subst (ChainFrom H p) (sym (written_replied (fronted z buffer) rest o (length z) d)) (subst (λ (y : List ℕ). ChainFrom H p (y ∷ rest)) front whole)
 
-  chain_step : (r : Round) (b buffer : List ℕ) (d : Result) → Step H r b d → p ≡ named r r.last → q ≡ named d.round d.round.last
+  chain_step : (r : Round) (b buffer : List ℕ) (d : Effect) → Step H r b d → p ≡ named r r.last → q ≡ named d.round d.round.last
       → ChainFrom H p (written_by (fronted d.reply buffer) rest (outcome_number d.outcome))
   chain_step r b buffer d s before after = step s.answers
     where
@@ -67,7 +67,7 @@ module _ (laws : CallLaws) where
   chain_from H rule (deliver b buffer ∷ l) r typed = step (λ s t. chain_from H rule l s t) (refused_or_not (delivery H r b buffer).outcome)
     where
       step : ((s : Round) → Typed s → ChainFrom H (named s s.last) (written (run H s l)))
-          → ((e : Refusal) × ((delivery H r b buffer).outcome ≡ outcome.Refused e)) ⊎ ((e : Refusal) → (delivery H r b buffer).outcome ≢ outcome.Refused e)
+          → ((e : Refusal) × ((delivery H r b buffer).outcome ≡ Err e)) ⊎ ((e : Refusal) → (delivery H r b buffer).outcome ≢ Err e)
           → ChainFrom H (named r r.last) (written_by (replied H r b buffer) (written (run H (delivery H r b buffer).round l)) (outcome_number (delivery H r b buffer).outcome))
       step rest (inl (e, d)) =
           let same : (delivery H r b buffer).round ≡ r = (laws.refusal H r b buffer e d).0 in
@@ -91,7 +91,7 @@ module _ (laws : CallLaws) where
 
 -- ---- so each written message names none or a written one
 named_before : (H : List ℕ → Id) (p : Option Id) (W l : List (List ℕ)) → ((i : Id) → p ≡ some i → IdFrom H W i) → Within l W → ChainFrom H p l
-    → (z : List ℕ) → z ∈ l → (f : AcceptorMessage) → reading z ≡ OfAcceptor f → (i : Id) → previous_id z f ≡ some i → IdFrom H W i
+    → (z : List ℕ) → z ∈ l → (f : AcceptorMessage) → reading z ≡ Ok (OfAcceptor f) → (i : Id) → previous_id z f ≡ some i → IdFrom H W i
 unfolding ChainFrom
 named_before H p W [] before inW chain z m f read i e = elim m [ ]
 named_before H p W (y ∷ l) before inW ((g, said, names), chain) z m f read i e = step (λ k. named_before H (some (H y)) W l next (λ x k. inW x (Memᴰ.tail k)) chain z k f read i e) m
@@ -101,11 +101,11 @@ named_before H p W (y ∷ l) before inW ((g, said, names), chain) z m f read i e
 
     step : (z ∈ l → IdFrom H W i) → z ∈ y ∷ l → IdFrom H W i
     step rest (Memᴰ.head q) =
-        let one : OfAcceptor f ≡ OfAcceptor g = sym read ∙ ap reading q ∙ said in
+        let one : Ok (OfAcceptor f) ≡ Ok (OfAcceptor g) = sym read ∙ ap reading q ∙ said in
         let same : f ≡ g = cc in
         before i (sym names ∙ sym (λ j. previous_id (q j) (same j)) ∙ e)
     step rest (Memᴰ.tail k) = rest k
 
 pub written_names_written : (H : List ℕ → Id) (W : List (List ℕ)) → ChainFrom H none W
-    → (z : List ℕ) → z ∈ W → (f : AcceptorMessage) → reading z ≡ OfAcceptor f → (i : Id) → previous_id z f ≡ some i → IdFrom H W i
+    → (z : List ℕ) → z ∈ W → (f : AcceptorMessage) → reading z ≡ Ok (OfAcceptor f) → (i : Id) → previous_id z f ≡ some i → IdFrom H W i
 written_names_written H W chain = named_before H none W W (λ i e. let x : ◌≡◌ {A = ℕ} 0 1 = cc in absurd (omega arith)) (λ m k. k) chain

@@ -8,12 +8,12 @@ use mathlib.Core.List.{List, [], ◌∷◌}
 use Prim.Native.Nat.{ℕ}
 use native.Mathlib.Omega.{arith}
 use lib.ListN.{take}
+use Rattle.std.specs.Prelude.{Ok, Err, Some, None}
 use Rattle.base.specs.Tests.{◌∈◌}
 use Rattle.base.specs.declared.refusal.Refusal.{Refusal}
 use Rattle.protocol.specs.Ids.{Id}
 use Rattle.round.specs.Round.{Round}
-use Rattle.round.specs.declared.Outcome.{Outcome}
-use Rattle.round.specs.declared.Outcome.TheVariants as outcome
+use Rattle.round.specs.Outcomes.{Outcome}
 use Rattle.round.specs.Holdings.{named}
 use Rattle.round.specs.Delivery.{delivery, replied}
 use Rattle.round.specs.Answers.{outcome_number}
@@ -31,12 +31,12 @@ use Rattle.round.proofs.Lists.{refused_or_not}
 chained_reply : (r : Round) (m : Id) (z : List ℕ) → RecentHolds r → ReplySays r m z → OwnChained r.own z
 chained_reply r m z inv (f, read, house, bay, own, last, refs) = (f, read, own, λ i e. (refs i).1 (inr (inv.last i (sym last ∙ e))))
 
-pub written_cases : (o : Outcome) (buffer : List ℕ) (l : List (List ℕ)) (z : List ℕ) → z ∈ written_by buffer l (outcome_number o) → ((n : ℕ) × (o ≡ outcome.Replied n) × (z ≡ take n buffer)) ⊎ (z ∈ l)
-written_cases (outcome.Refused e) buffer l z m = inr (subst (λ (x : List (List ℕ)). z ∈ x) (written_refused buffer l (outcome.Refused e) e refl) m)
-written_cases outcome.Accepted buffer l z m = inr m
-written_cases (outcome.Replied n) buffer l z m = step (subst (λ (x : List (List ℕ)). z ∈ x) (written_replied buffer l (outcome.Replied n) n refl) m)
+pub written_cases : (o : Outcome) (buffer : List ℕ) (l : List (List ℕ)) (z : List ℕ) → z ∈ written_by buffer l (outcome_number o) → ((n : ℕ) × (o ≡ Ok (Some n)) × (z ≡ take n buffer)) ⊎ (z ∈ l)
+written_cases (Err e) buffer l z m = inr (subst (λ (x : List (List ℕ)). z ∈ x) (written_refused buffer l (Err e) e refl) m)
+written_cases (Ok None) buffer l z m = inr m
+written_cases (Ok (Some n)) buffer l z m = step (subst (λ (x : List (List ℕ)). z ∈ x) (written_replied buffer l (Ok (Some n)) n refl) m)
   where
-    step : z ∈ take n buffer ∷ l → ((k : ℕ) × (outcome.Replied n ≡ outcome.Replied k) × (z ≡ take k buffer)) ⊎ (z ∈ l)
+    step : z ∈ take n buffer ∷ l → ((k : ℕ) × (◌≡◌ {A = Outcome} (Ok (Some n)) (Ok (Some k))) × (z ≡ take k buffer)) ⊎ (z ∈ l)
     step (Memᴰ.head e) = inl (n, refl, e)
     step (Memᴰ.tail i) = inr i
 
@@ -53,7 +53,7 @@ module _ (H : List ℕ → Id) (rule : IdRule H) (own : ℕ) where
   call_keeps r (report a) inv = inv
   call_keeps r (deliver b buffer) inv = step (refused_or_not (delivery H r b buffer).outcome)
     where
-      step : ((e : Refusal) × ((delivery H r b buffer).outcome ≡ outcome.Refused e)) ⊎ ((e : Refusal) → (delivery H r b buffer).outcome ≢ outcome.Refused e)
+      step : ((e : Refusal) × ((delivery H r b buffer).outcome ≡ Err e)) ⊎ ((e : Refusal) → (delivery H r b buffer).outcome ≢ Err e)
           → Holds own (delivery H r b buffer).round
       step (inl (e, d)) = subst (Holds own) (sym (refused_leaves_all_lem H r b buffer e d).0) inv
       step (inr kept) =
@@ -70,7 +70,7 @@ module _ (H : List ℕ → Id) (rule : IdRule H) (own : ℕ) where
       (written_cases (delivery H r b buffer).outcome (replied H r b buffer) (written (run H (delivery H r b buffer).round l)) z m)
     where
       step : (z ∈ written (run H (delivery H r b buffer).round l) → OwnChained own z)
-          → ((n : ℕ) × ((delivery H r b buffer).outcome ≡ outcome.Replied n) × (z ≡ take n (replied H r b buffer))) ⊎ (z ∈ written (run H (delivery H r b buffer).round l))
+          → ((n : ℕ) × ((delivery H r b buffer).outcome ≡ Ok (Some n)) × (z ≡ take n (replied H r b buffer))) ⊎ (z ∈ written (run H (delivery H r b buffer).round l))
           → OwnChained own z
       step rest (inl (n, d, e)) =
           let said = chained_reply r (H b) (take n (replied H r b buffer)) inv.recent (reply_reads_back_lem H rule r inv.typed b buffer n d) in

@@ -1,17 +1,14 @@
 -- The demands over lists of calls, with nothing left open: the laws of single calls put into the theorems that stand on them.
-use mathlib.Core.Path.{◌≡◌, sym, subst, ◌∙◌}
+use mathlib.Core.Path.{◌≡◌}
 use mathlib.Core.List.{List}
-use Prim.Native.Nat.{ℕ, ◌<◌}
+use Prim.Native.Nat.{ℕ}
+use Rattle.std.specs.Prelude.{Ok}
 use Rattle.digest.specs.Sha256.{sha256}
-use Rattle.graph.specs.declared.Answer.TheVariants.{Accepted}
 use Rattle.graph.specs.declared.Graph.{Graph}
-use Rattle.graphfile.specs.File.{answer_of}
 use Rattle.graph.specs.Memory.{view_of}
 use Rattle.graphfile.specs.Arrays.{reading_of}
-use Rattle.graphfile.proofs.Files.{reading_answer}
 use Rattle.graphfile.proofs.Accepted.{accepted_is_sound, undirected_symmetric}
 use Rattle.graphfile.proofs.Peopled.{accepted_peopled}
-use Rattle.protocol.specs.Equations.{Peopled}
 use Rattle.protocol.specs.Theorems.{SoundGraph}
 use Rattle.round.specs.Neighbours.{SameCaughtOverLists, OneCaughtList}
 use Rattle.round.specs.Votes.{FewReplies}
@@ -29,22 +26,20 @@ use Rattle.round.proofs.November as november
 use Rattle.round.proofs.Votes as votes
 
 -- the graph of an accepted file
-sound_file : (file : List ℕ) → answer_of file ≡ Accepted → SoundGraph (view_of (reading_of file).graph)
-sound_file file e =
-    let S = accepted_is_sound file e in
-    record { is_valid = S.is_valid; is_condensed = S.is_condensed; undirected = undirected_symmetric (view_of (reading_of file).graph) S.undirected }
+sound_file : (file : List ℕ) (g : Graph) → reading_of file ≡ Ok g → SoundGraph (view_of g)
+sound_file file g e =
+    let S = accepted_is_sound file g e in
+    record { is_valid = S.is_valid; is_condensed = S.is_condensed; undirected = undirected_symmetric (view_of g) S.undirected }
 
 opening : OpeningLaw
 opening file house bay own r starts =
     let O = opened_round file house bay own r starts in
-    let e : answer_of file ≡ Accepted = sym (reading_answer file) ∙ O.accepted in
-    let g : (reading_of file).graph ≡ r.graph = sym O.graph in
     record {
       typed = O.typed;
       fitting = O.fitting;
-      graph = O.graph;
-      sound = subst (λ (k : Graph). SoundGraph (view_of k)) g (sound_file file e);
-      peopled = subst (λ (k : Graph). (a : ℕ) → a < k.learners → Peopled (view_of k) a) g (λ a l q m. accepted_peopled file e a q l m);
+      graph = O.accepted;
+      sound = sound_file file r.graph O.accepted;
+      peopled = λ a l q m. accepted_peopled file r.graph O.accepted a q l m;
       empty = O.held;
       unsent = O.last;
     }

@@ -14,7 +14,7 @@ use Rattle.round.specs.Round.{Round}
 use Rattle.round.specs.Limits.{max_held, acceptor_room, listening}
 use Rattle.round.specs.Holdings.{is_voting, id_at, named, is_known, place_of}
 use Rattle.round.specs.Rows.{placed}
-use Rattle.round.specs.Delivery.{Result, hold, returned, entered_in, entered_at, processed, entered}
+use Rattle.round.specs.Delivery.{Effect, hold, returned, entered_in, entered_at, processed, entered}
 use Rattle.round.specs.Premises.{IdRule, Typed}
 use Rattle.round.specs.Demands.{RecentId, ReplySays}
 use Rattle.round.proofs.Step.{Arrives, Step}
@@ -39,7 +39,7 @@ room_behind true f n h t = nleb→lt acceptor_room n h
 room_behind false f n h t = absurd t
 
 -- the law of one delivery, what a reply says, and what stays true of recent
-pub record Tells (H : List ℕ → Id) (r : Round) (b : List ℕ) (d : Result) : Type 0 where
+pub record Tells (H : List ℕ → Id) (r : Round) (b : List ℕ) (d : Effect) : Type 0 where
   pub step : Step H r b d
   pub speaks : Speaks r (H b) d
   pub recent : RecentHolds r → RecentHolds d.round
@@ -82,7 +82,7 @@ module _ (H : List ℕ → Id) (r s : Round) (b : List ℕ) (p : ℕ) (e : Enter
       back i (inl q) = inl (q ∙ sym e.recent.id)
       back i (inr h) = inr (e.recent.after i h)
 
-  stepped : (d : Result) → Answers H s p d → Tells H r b d
+  stepped : (d : Effect) → Answers H s p d → Tells H r b d
   stepped d w =
       record {
         step = record { between = s; arrives = e.arrives; answers = w.answers; typed = w.typed; fitting = fits_in d.round w.fitting };

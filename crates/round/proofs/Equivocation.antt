@@ -5,10 +5,11 @@ use mathlib.Core.Bool.{Bool, not}
 use mathlib.Core.List.{List}
 use Prim.Native.Nat.{ℕ}
 use lib.Dec.{T}
+use Rattle.std.specs.Prelude.{Ok}
 use Rattle.base.specs.Tests.{◌∈◌}
 use Rattle.message.specs.Reader.{reading}
 use Rattle.message.specs.declared.AcceptorMessage.{AcceptorMessage}
-use Rattle.message.specs.declared.Reading.TheVariants.{OfAcceptor}
+use Rattle.message.specs.declared.Message.TheVariants.{OfAcceptor}
 use Rattle.protocol.specs.Ids.{Id}
 use Rattle.protocol.specs.Message.{Message, id_of, signer, previous, is_acceptor, caught_in}
 use Rattle.protocol.specs.Table.{Table, at, tree}
@@ -25,7 +26,7 @@ pub record Read (H : List ℕ → Id) (M : List (List ℕ)) (x : Message) : Type
   pub bytes : List ℕ
   pub inside : bytes ∈ M
   pub id : id_of x ≡ H bytes
-  pub vote : T (is_acceptor x) → (f : AcceptorMessage) × (reading bytes ≡ OfAcceptor f) × (f.signer ≡ signer x) × (previous_id bytes f ≡ previous x)
+  pub vote : T (is_acceptor x) → (f : AcceptorMessage) × (reading bytes ≡ Ok (OfAcceptor f)) × (f.signer ≡ signer x) × (previous_id bytes f ≡ previous x)
 
 pub heard_read : {H : List ℕ → Id} {A M : List (List ℕ)} {t : Table} {p : ℕ} → Within A M → Heard H A t p → (x : Message) → x ≡ tree t p → Read H M x
 heard_read {H} {A} {M} {t} {p} inM h x e = subst (Read H M) (sym e) (record {

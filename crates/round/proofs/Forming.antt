@@ -10,6 +10,7 @@ use Prim.Native.Nat.{ℕ, ◌<◌}
 use native.Mathlib.Omega.{arith}
 use lib.Dec.{T, ltb, T_not}
 use lib.ListN.{length}
+use Rattle.std.specs.Prelude.{Ok, Some, None}
 use Rattle.base.specs.Tests.{◌∈◌, pick}
 use Rattle.base.proofs.Tests.{not_true}
 use Rattle.graph.specs.Memory.{view_of}
@@ -19,12 +20,11 @@ use Rattle.protocol.specs.Ids.{Id}
 use Rattle.protocol.specs.WellFormed.{well_formed}
 use Rattle.protocol.specs.Table.{Held, says, held_id, offered}
 use Rattle.round.specs.Round.{Round}
-use Rattle.round.specs.declared.Outcome.TheVariants as outcome
 use Rattle.round.specs.Limits.{max_held, listening}
 use Rattle.round.specs.Holdings.{graph_of, is_voting, id_at, is_proposal_at, table_of, is_known, place_of}
 use Rattle.round.specs.Rows.{placed, or_zero, is_awaited, message_of}
 use Rattle.round.specs.Reply.{reply_places, reply_bytes, reply_record, is_sent}
-use Rattle.round.specs.Delivery.{record_read, message_read, knowing, Result, hold, entered_in, entered_at, sent, joins, answered, processed, delivery}
+use Rattle.round.specs.Delivery.{record_read, message_read, knowing, Effect, hold, entered_in, entered_at, sent, joins, answered, processed, delivery}
 use Rattle.round.specs.Answers.{outcome_number, has_reply}
 use Rattle.round.specs.Premises.{IdRule, Typed}
 use Rattle.round.specs.Demands.{RecentId}
@@ -143,8 +143,8 @@ module _ (H : List ℕ → Id) (rule : IdRule H) (r s : Round) (b : List ℕ) (p
         silent = keeps c;
       }
     where
-      replies : T (has_reply (outcome_number (outcome.Replied (length z))))
-      replies = number_replied (outcome.Replied (length z)) (length z) refl
+      replies : T (has_reply (outcome_number (Ok (Some (length z)))))
+      replies = number_replied (Ok (Some (length z))) (length z) refl
 
       exactly : (c : Bool) → T c ↔ Formed → T (has_reply (outcome_number (pick c (sent H s p z) (joins H s p)).outcome)) ↔ Formed
       exactly true e = (λ _. e.0 tt, λ _. replies)
@@ -155,17 +155,17 @@ module _ (H : List ℕ → Id) (rule : IdRule H) (r s : Round) (b : List ℕ) (p
       sends false t = absurd t
 
       keeps : (c : Bool) → T (not (has_reply (outcome_number (pick c (sent H s p z) (joins H s p)).outcome))) → SentNothing r s (H b) (pick c (sent H s p z) (joins H s p))
-      keeps true k = absurd (T_not (has_reply (outcome_number (outcome.Replied (length z)))) k replies)
+      keeps true k = absurd (T_not (has_reply (outcome_number (Ok (Some (length z))))) k replies)
       keeps false k = quiet
 
-  pick_first : (c : Bool) (x y : Result) → T c → pick c x y ≡ x
+  pick_first : (c : Bool) (x y : Effect) → T c → pick c x y ≡ x
   pick_first true x y t = refl
   pick_first false x y t = absurd t
 
   responds : Responds H r s b (processed H s p)
   unfolding processed
   responds =
-      subst (λ (d : Result). Responds H r s b d) (sym (pick_first (is_voting s) (answered H s p z) (record { outcome = outcome.Accepted; round = s; reply = [] }) voting))
+      subst (λ (d : Effect). Responds H r s b d) (sym (pick_first (is_voting s) (answered H s p z) (record { outcome = Ok None; round = s; reply = [] }) voting))
       (by (is_sent s (message_of s h)) test)
 
 pub sent_exactly_when_formed : SentExactlyWhenFormed
@@ -174,7 +174,7 @@ sent_exactly_when_formed H rule r typed voting b buffer kept =
     let o = place_of r (H b) in
     let h = record_read H r b (reading b) in
     let w = entering H rule r typed fit b h t.accepts o refl in
-    subst (λ (d : Result). Responds H r (knowing H r b) b d) (sym t.enters)
+    subst (λ (d : Effect). Responds H r (knowing H r b) b d) (sym t.enters)
     (responds H rule r (entered_in r h o) b (entered_at r o) w (subst (λ (n : ℕ). T (ltb n listening)) w.arrives.same.own voting) (entered_place H rule r typed fit b h t.accepts o refl))
 
 -- ---- what is accepted is held, and a round that listens does no more
@@ -189,7 +189,7 @@ accepted_is_held H rule r typed b buffer kept =
       record { known = arrived_known H r s b w.arrives; holds = entered_holds H rule r typed fit b h t.accepts o refl },
       λ listens.
           let silent : is_voting s ≡ false = not_true (is_voting s) (subst (λ (n : ℕ). T (not (ltb n listening))) w.arrives.same.own listens) in
-          let d : delivery H r b buffer ≡ record { outcome = outcome.Accepted; round = s; reply = [] } =
-          t.enters ∙ ap (λ (c : Bool). pick c (answered H s (entered_at r o) (reply_bytes s (entered_at r o))) (record { outcome = outcome.Accepted; round = s; reply = [] })) silent in
-          (ap (λ (x : Result). outcome_number x.outcome) d, ap (λ (x : Result). x.round) d, ap (λ (x : Result). fronted x.reply buffer) d),
+          let d : delivery H r b buffer ≡ record { outcome = Ok None; round = s; reply = [] } =
+          t.enters ∙ ap (λ (c : Bool). pick c (answered H s (entered_at r o) (reply_bytes s (entered_at r o))) (record { outcome = Ok None; round = s; reply = [] })) silent in
+          (ap (λ (x : Effect). outcome_number x.outcome) d, ap (λ (x : Effect). x.round) d, ap (λ (x : Effect). fronted x.reply buffer) d),
     )

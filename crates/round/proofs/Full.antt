@@ -8,6 +8,7 @@ use Prim.Native.Nat.{ℕ, ◌+◌, ◌-◌, ◌≤◌}
 use native.Mathlib.Omega.{arith}
 use lib.Dec.{T, eqb, ltb, leb, leb→le, nleb→lt}
 use lib.ListN.{length, get_or}
+use Rattle.std.specs.Prelude.{Ok, Err}
 use Rattle.base.specs.Tests.{pick}
 use Rattle.base.specs.Bytes.{be}
 use Rattle.base.specs.Refusals.{number_of}
@@ -18,18 +19,17 @@ use Rattle.message.specs.Order.{ascending}
 use Rattle.message.specs.Reader.{unless, proposal_in, acceptor_in, read_proposal, read_counted, read_marked, read_acceptor, read_kind, reading}
 use Rattle.message.specs.declared.Proposal.{Proposal}
 use Rattle.message.specs.declared.AcceptorMessage.{AcceptorMessage}
-use Rattle.message.specs.declared.Reading.{Reading}
-use Rattle.message.specs.declared.Reading.TheVariants.{OfProposer, OfAcceptor, Refused}
+use Rattle.round.specs.Outcomes.{Reading, Outcome}
+use Rattle.message.specs.declared.Message.TheVariants.{OfProposer, OfAcceptor}
 use Rattle.protocol.specs.Ids.{Id}
 use Rattle.protocol.specs.Message.{Message}
 use Rattle.protocol.specs.Table.{Held, offers}
 use Rattle.round.specs.Round.{Round}
-use Rattle.round.specs.declared.Outcome.TheVariants as outcome
 use Rattle.round.specs.Limits.{max_held, acceptor_room, reply_len}
 use Rattle.round.specs.Holdings.{is_voting, place_of}
 use Rattle.round.specs.Handed.{fits}
 use Rattle.round.specs.Rows.{reference_ids, previous_id, is_awaited, vote_record, message_of, room, full, proposal_rows, acceptor_rows, first_of}
-use Rattle.round.specs.Delivery.{Result, refused, decided_by, taken, delivery}
+use Rattle.round.specs.Delivery.{Effect, refused, decided_by, taken, delivery}
 use Rattle.round.specs.ShutOut.{FullOnly, RoomFound}
 use Rattle.round.proofs.Passing.{proposal_passed, acceptor_passed}
 use Rattle.round.proofs.OneDelivery.{Kept, past_argument}
@@ -38,20 +38,20 @@ use Rattle.round.proofs.Answers.{taken_number, full_number}
 
 -- ---- the reader refuses by 1 to 4 only
 unfoldable Early : Reading → Type 0
-Early (OfProposer p) = Unit {0}
-Early (OfAcceptor m) = Unit {0}
-Early (Refused e) = number_of e ≤ 4
+Early (Ok (OfProposer p)) = Unit {0}
+Early (Ok (OfAcceptor m)) = Unit {0}
+Early (Err e) = number_of e ≤ 4
 
 early : (t : Bool) (e : Refusal) (x : Reading) → number_of e ≤ 4 → Early x → Early (unless t e x)
 unfolding Early
 early true e x l h = h
 early false e x l h = l
 
-read_early : (m : Proposal) → Early (OfProposer m)
+read_early : (m : Proposal) → Early (Ok (OfProposer m))
 unfolding Early
 read_early m = tt
 
-vote_early : (m : AcceptorMessage) → Early (OfAcceptor m)
+vote_early : (m : AcceptorMessage) → Early (Ok (OfAcceptor m))
 unfolding Early
 vote_early m = tt
 
@@ -89,7 +89,7 @@ reader_early s =
     (early (ltb layout.kind_at (length s)) Length _ (omega arith) (kind_early s (get_or s layout.kind_at 0))))))
 
 -- ---- the rows: 16 is the last one
-refused_by : (e f : Refusal) → outcome.Refused e ≡ outcome.Refused f → number_of e ≡ number_of f
+refused_by : (e f : Refusal) → ◌≡◌ {A = Outcome} (Err e) (Err f) → number_of e ≡ number_of f
 refused_by e f k = let z : e ≡ f = cc in ap number_of z
 
 some_by : (e f : Refusal) → some e ≡ some f → number_of e ≡ number_of f
@@ -131,20 +131,20 @@ module _ (r : Round) (i : Id) where
       words false a l = (omega arith, λ w. l)
 
 module _ (H : List ℕ → Id) (r : Round) (b : List ℕ) where
-  decided_full : (h : Held) (o : Option Refusal) → (decided_by H r (H b) h o).outcome ≡ outcome.Refused Full → o ≡ some Full
+  decided_full : (h : Held) (o : Option Refusal) → (decided_by H r (H b) h o).outcome ≡ Err Full → o ≡ some Full
   decided_full h none k = absurd (entered_kept H r h (place_of r (H b)) Full k)
   decided_full h (some e) k = let z : e ≡ Full = cc in ap some z
 
-  taken_full : (x : Reading) → Early x → (taken H r b x).outcome ≡ outcome.Refused Full → T (full r (H b))
+  taken_full : (x : Reading) → Early x → (taken H r b x).outcome ≡ Err Full → T (full r (H b))
   unfolding Early
-  taken_full (Refused e) l k = absurd (omega (arith, refused_by e Full k))
-  taken_full (OfProposer m) l k = proposal_full r (H b) m (decided_full (offers (H b) m.proposer m.ballot) (first_of (proposal_rows r (H b) m)) k)
-  taken_full (OfAcceptor m) l k =
+  taken_full (Err e) l k = absurd (omega (arith, refused_by e Full k))
+  taken_full (Ok (OfProposer m)) l k = proposal_full r (H b) m (decided_full (offers (H b) m.proposer m.ballot) (first_of (proposal_rows r (H b) m)) k)
+  taken_full (Ok (OfAcceptor m)) l k =
       let h = vote_record r (H b) m.signer (previous_id b m) (reference_ids b m) in
       acceptor_full r (H b) m (previous_id b m) (reference_ids b m) (message_of r h)
       (decided_full h (first_of (acceptor_rows r (H b) m (previous_id b m) (reference_ids b m) (message_of r h))) k)
 
-  argument_full : (t : Bool) (d : Result) → (d.outcome ≡ outcome.Refused Full → T (full r (H b))) → (pick t (refused r Argument) d).outcome ≡ outcome.Refused Full → T (full r (H b))
+  argument_full : (t : Bool) (d : Effect) → (d.outcome ≡ Err Full → T (full r (H b))) → (pick t (refused r Argument) d).outcome ≡ Err Full → T (full r (H b))
   argument_full true d f k = absurd (omega (arith, refused_by Argument Full k))
   argument_full false d f k = f k
 
@@ -154,9 +154,9 @@ module _ (H : List ℕ → Id) (r : Round) (b : List ℕ) where
   decided_room h (some e) f k = absurd (k e refl)
 
   taken_room : (x : Reading) → Kept (taken H r b x) → T (not (full r (H b)))
-  taken_room (Refused e) k = absurd (k e refl)
-  taken_room (OfProposer m) k = decided_room (offers (H b) m.proposer m.ballot) (first_of (proposal_rows r (H b) m)) (λ e. (proposal_passed r (H b) m e).not_full) k
-  taken_room (OfAcceptor m) k =
+  taken_room (Err e) k = absurd (k e refl)
+  taken_room (Ok (OfProposer m)) k = decided_room (offers (H b) m.proposer m.ballot) (first_of (proposal_rows r (H b) m)) (λ e. (proposal_passed r (H b) m e).not_full) k
+  taken_room (Ok (OfAcceptor m)) k =
       let h = vote_record r (H b) m.signer (previous_id b m) (reference_ids b m) in
       decided_room h (first_of (acceptor_rows r (H b) m (previous_id b m) (reference_ids b m) (message_of r h)))
       (λ e. (acceptor_passed r (H b) m (previous_id b m) (reference_ids b m) (message_of r h) e).fresh.not_full) k

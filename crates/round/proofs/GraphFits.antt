@@ -8,18 +8,19 @@ use Prim.Native.Nat.{ℕ, zero, suc, ◌≤◌}
 use native.Mathlib.Omega.{arith}
 use lib.Dec.{T, eqb, ltb, leb, eqb→eq, ltb→lt, le→leb, leb→le}
 use lib.ListN.{length, get_or, set, replicate}
+use Rattle.std.specs.Result.{result_and}
+use Rattle.std.specs.Prelude.{Result, Ok, Err}
+use Rattle.base.specs.declared.refusal.Refusal.{Refusal}
 use Rattle.base.specs.Tests.{all, below}
 use Rattle.base.proofs.Tests.{and_in, and_l, and_r, or_r, or_out, all_in}
 use Rattle.graph.specs.declared.Graph.{Graph}
-use Rattle.graph.specs.declared.Answer.{Answer}
-use Rattle.graph.specs.declared.Answer.TheVariants.{Accepted, Refused}
 use Rattle.graph.specs.Limits.{max_acceptors, max_learners, max_masks, lists}
 use Rattle.graph.specs.Answers.{graph_answer}
 use Rattle.graphfile.specs.File.{Got, got, no, Contents, contents, graph_said}
 use Rattle.graphfile.proofs.Reader.{Small, Rows, GraphGot, graph_got}
 use Rattle.graphfile.proofs.Accepted.{FileGot, file_got}
 use Rattle.graph.specs.Memory.{pair_list}
-use Rattle.graphfile.specs.Arrays.{ListArrays, hold, hold_all, hold_rows, held_of, nothing, graph_of_held, graph_reading, contents_reading, reading_of}
+use Rattle.graphfile.specs.Arrays.{ListArrays, hold, hold_all, hold_rows, held_of, nothing, graph_of_held, graph_in_file, contents_reading, reading_of}
 use Rattle.round.specs.Limits.{listening, own_allowed}
 use Rattle.round.specs.Handed.{in_use, list_fits, graph_fits}
 
@@ -69,16 +70,16 @@ says_fits s f w =
     (and_in (a && b && c) d (and_in (a && b) c (and_in a b (le→leb 1 f.acceptors w.some_acceptors) (le→leb f.acceptors max_acceptors w.most_acceptors)) (le→leb 1 f.learners w.some_learners)) (le→leb f.learners max_learners w.few))
     (all_in (list_fits g) (below lists) (λ k m. or_r (not (in_use f.learners k)) (leb (get_or (held_of f).counts k 0) max_masks) (le→leb (get_or (held_of f).counts k 0) max_masks (held_small f f.learners lists'.small lists'.rows k))))
 
-reading_fits : (s : List ℕ) (f : Contents) (a : Answer) → FileGot s f → (graph_reading f a).answer ≡ Accepted → T (graph_fits (graph_reading f a).graph)
-reading_fits s f Accepted w e = says_fits s f w
-reading_fits s f (Refused r) w e = let z : ◌≡◌ {A = ℕ} 0 1 = cc in absurd (omega arith)
+reading_fits : (s : List ℕ) (f : Contents) (a : Result Unit Refusal) (g : Graph) → FileGot s f → result_and a (Ok (graph_in_file f)) ≡ Ok g → T (graph_fits g)
+reading_fits s f (Ok x) g w e = let same : graph_in_file f ≡ g = cc in subst (λ (h : Graph). T (graph_fits h)) same (says_fits s f w)
+reading_fits s f (Err r) g w e = let z : ◌≡◌ {A = ℕ} 0 1 = cc in absurd (omega arith)
 
-got_fits : (s : List ℕ) (g : Got Contents) → contents s ≡ g → (contents_reading g).answer ≡ Accepted → T (graph_fits (contents_reading g).graph)
-got_fits s (got f m) e k = reading_fits s f (graph_answer (graph_said f)) (file_got s f m e) k
-got_fits s (no r) e k = let z : ◌≡◌ {A = ℕ} 0 1 = cc in absurd (omega arith)
+got_fits : (s : List ℕ) (x : Got Contents) (g : Graph) → contents s ≡ x → contents_reading x ≡ Ok g → T (graph_fits g)
+got_fits s (got f m) g e k = reading_fits s f (graph_answer (graph_said f)) g (file_got s f m e) k
+got_fits s (no r) g e k = let z : ◌≡◌ {A = ℕ} 0 1 = cc in absurd (omega arith)
 
-pub accepted_fits : (s : List ℕ) → (reading_of s).answer ≡ Accepted → T (graph_fits (reading_of s).graph)
-accepted_fits s e = got_fits s (contents s) refl e
+pub accepted_fits : (s : List ℕ) (g : Graph) → reading_of s ≡ Ok g → T (graph_fits g)
+accepted_fits s g e = got_fits s (contents s) g refl e
 
 -- ---- what row 17 leaves of a graph's numbers
 module _ (g : Graph) (h : T (graph_fits g)) where

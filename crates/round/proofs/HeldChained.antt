@@ -10,11 +10,12 @@ use Prim.Native.Nat.{ℕ, ◌<◌}
 use native.Mathlib.Omega.{arith}
 use lib.Dec.{T}
 use lib.ListN.{length}
+use Rattle.std.specs.Prelude.{Ok}
 use Rattle.base.specs.Tests.{◌∈◌}
 use Rattle.base.proofs.Tests.{dec_T, map_out, below_in, below_out}
 use Rattle.message.specs.Reader.{reading}
 use Rattle.message.specs.declared.AcceptorMessage.{AcceptorMessage}
-use Rattle.message.specs.declared.Reading.TheVariants.{OfAcceptor}
+use Rattle.message.specs.declared.Message.TheVariants.{OfAcceptor}
 use Rattle.protocol.specs.Ids.{Id}
 use Rattle.protocol.specs.Message.{Message, previous, references}
 use Rattle.protocol.specs.WellFormed.{chained}
@@ -39,7 +40,7 @@ use Rattle.round.proofs.Chained.{reply_is_chained}
 -- ---- what holds of a written message z, W being all of them: it is chained, and what it names was written
 pub record Sent (H : List ℕ → Id) (own : ℕ) (W : List (List ℕ)) (z : List ℕ) : Type 0 where
   pub fields : AcceptorMessage
-  pub reads : reading z ≡ OfAcceptor fields
+  pub reads : reading z ≡ Ok (OfAcceptor fields)
   pub signed : fields.signer ≡ own
   pub refers : (i : Id) → previous_id z fields ≡ some i → i ∈ reference_ids z fields
   pub before : (i : Id) → previous_id z fields ≡ some i → IdFrom H W i

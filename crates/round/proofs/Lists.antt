@@ -9,6 +9,7 @@ use native.Mathlib.Omega.{arith}
 use lib.ListN.{length, take, drop}
 use lib.Seq.{take-append_seam}
 use lib.Dec.{T, eqb, eqb→eq}
+use Rattle.std.specs.Prelude.{Ok, Err, Some, None}
 use Rattle.base.specs.Tests.{◌∈◌}
 use Rattle.base.proofs.Tests.{and_l, and_r, pick_head, pick_tail, pick_out}
 use Rattle.base.specs.declared.refusal.Refusal.{Refusal}
@@ -17,8 +18,7 @@ use Rattle.protocol.specs.Ids.{Id}
 use Rattle.protocol.specs.Theorems.{Within}
 use Rattle.protocol.specs.Table.{Table, tabulate}
 use Rattle.round.specs.Round.{Round}
-use Rattle.round.specs.declared.Outcome.{Outcome}
-use Rattle.round.specs.declared.Outcome.TheVariants as outcome
+use Rattle.round.specs.Outcomes.{Outcome}
 use Rattle.round.specs.Holdings.{record_at, table_of, is_known}
 use Rattle.round.specs.Delivery as given
 use Rattle.round.specs.Answers.{outcome_number, has_reply, reply_size, is_taken, Page, reported_number, reported_page}
@@ -30,16 +30,16 @@ use Rattle.round.proofs.Kept.{Kept, kept_nil}
 use Rattle.round.proofs.Reached.{Reached, Grows, grows_refl, grows_trans, step_grows, step_keeps}
 
 -- ---- one call's part in what is accepted and written
-pub refused_or_not : (o : Outcome) → ((e : Refusal) × (o ≡ outcome.Refused e)) ⊎ ((e : Refusal) → o ≢ outcome.Refused e)
-refused_or_not (outcome.Refused e) = inl (e, refl)
-refused_or_not outcome.Accepted = inr (λ e d. let z : ◌≡◌ {A = ℕ} 0 1 = cc in omega arith)
-refused_or_not (outcome.Replied n) = inr (λ e d. let z : ◌≡◌ {A = ℕ} 0 1 = cc in omega arith)
+pub refused_or_not : (o : Outcome) → ((e : Refusal) × (o ≡ Err e)) ⊎ ((e : Refusal) → o ≢ Err e)
+refused_or_not (Err e) = inl (e, refl)
+refused_or_not (Ok None) = inr (λ e d. let z : ◌≡◌ {A = ℕ} 0 1 = cc in omega arith)
+refused_or_not (Ok (Some n)) = inr (λ e d. let z : ◌≡◌ {A = ℕ} 0 1 = cc in omega arith)
 
 -- a reply is the front of the buffer
 pub reply_in_front_lem : (z buffer : List ℕ) → take (length z) (fronted z buffer) ≡ z
 reply_in_front_lem z buffer = take-append_seam z (drop (length z) buffer)
 
-written_here : (o : Outcome) (z buffer : List ℕ) (l : List (List ℕ)) → o ≡ outcome.Replied (length z) → z ∈ written_by (fronted z buffer) l (outcome_number o)
+written_here : (o : Outcome) (z buffer : List ℕ) (l : List (List ℕ)) → o ≡ Ok (Some (length z)) → z ∈ written_by (fronted z buffer) l (outcome_number o)
 written_here o z buffer l e =
     subst (λ (x : List (List ℕ)). z ∈ x) (sym (written_replied (fronted z buffer) l o (length z) e)) (Memᴰ.head (sym (reply_in_front_lem z buffer)))
 
@@ -91,7 +91,7 @@ module _ (laws : CallLaws) (H : List ℕ → Id) (rule : IdRule H) (A W : List (
   call_keeps r (report a) l reached in_a inW = (reached, grows_refl r)
   call_keeps r (deliver b buffer) l reached in_a inW = step (refused_or_not (given.delivery H r b buffer).outcome)
     where
-      step : ((e : Refusal) × ((given.delivery H r b buffer).outcome ≡ outcome.Refused e)) ⊎ ((e : Refusal) → (given.delivery H r b buffer).outcome ≢ outcome.Refused e)
+      step : ((e : Refusal) × ((given.delivery H r b buffer).outcome ≡ Err e)) ⊎ ((e : Refusal) → (given.delivery H r b buffer).outcome ≢ Err e)
           → Reached H A W (given.delivery H r b buffer).round × Grows r (given.delivery H r b buffer).round
       step (inl (e, d)) = subst (λ (s : Round). Reached H A W s × Grows r s) (sym (laws.refusal H r b buffer e d).0) (reached, grows_refl r)
       step (inr ne) =

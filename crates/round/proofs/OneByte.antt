@@ -7,6 +7,7 @@ use Prim.Native.Nat.{ℕ, zero, suc, ◌≤◌, ◌<◌}
 use native.Mathlib.Omega.{arith}
 use lib.Dec.{T, ltb, leb, not_T}
 use lib.ListN.{length, get_or, set}
+use Rattle.std.specs.Prelude.{Ok, Err}
 use Rattle.base.specs.Tests.{pick}
 use Rattle.base.specs.declared.refusal.Refusal.TheVariants.{Argument}
 use Rattle.base.proofs.Tests.{not_true, entry_below}
@@ -14,8 +15,6 @@ use Rattle.message.specs.Reader.{reading}
 use Rattle.protocol.specs.Ids.{Id}
 use Rattle.protocol.specs.Report.{report}
 use Rattle.round.specs.Round.{Round}
-use Rattle.round.specs.declared.Outcome.TheVariants as outcome
-use Rattle.round.specs.declared.Report.TheVariants as answer
 use Rattle.round.specs.Limits.{max_held, no_place, reply_len}
 use Rattle.round.specs.Holdings.{graph_of, is_proposal_at, references_at, known_messages}
 use Rattle.round.specs.Handed.{place_fits, refers_back, own_fits, fits}
@@ -26,13 +25,13 @@ use Rattle.round.proofs.Fitting.{Fitting, fits_out, fits_in, back_out, place_cas
 use Rattle.round.specs.Answers.{outcome_number, report_number}
 
 -- ---- a round that does not pass row 17
-pub unfit_delivered : (H : List ℕ → Id) (r : Round) (b buffer : List ℕ) → fits r ≡ false → (delivered H r b buffer).outcome ≡ outcome.Refused Argument
+pub unfit_delivered : (H : List ℕ → Id) (r : Round) (b buffer : List ℕ) → fits r ≡ false → (delivered H r b buffer).outcome ≡ Err Argument
 unfolding delivery
 unfit_delivered H r b buffer e = ap (λ (t : Bool). (pick (not t || ltb (length buffer) reply_len) (refused r Argument) (taken H r b (reading b))).outcome) e
 
-pub unfit_reported : (r : Round) (a : ℕ) → fits r ≡ false → reported r a ≡ answer.Refused Argument
+pub unfit_reported : (r : Round) (a : ℕ) → fits r ≡ false → reported r a ≡ Err Argument
 unfolding reported
-unfit_reported r a e = ap (λ (t : Bool). pick (not t || leb r.graph.learners a) (answer.Refused Argument) (told (report (graph_of r) (known_messages r) a))) e
+unfit_reported r a e = ap (λ (t : Bool). pick (not t || leb r.graph.learners a) (Err Argument) (Ok (told (report (graph_of r) (known_messages r) a)))) e
 
 pub unfit_is_17 : (r : Round) → fits r ≡ false → Is17 r
 unfit_is_17 r e = (λ H b buffer. ap outcome_number (unfit_delivered H r b buffer e), λ a. ap report_number (unfit_reported r a e))

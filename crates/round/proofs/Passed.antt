@@ -4,6 +4,7 @@ use mathlib.Core.Bool.{Bool, true, false, not, ◌||◌}
 use Prim.Native.Nat.{ℕ, ◌<◌}
 use native.Mathlib.Omega.{arith}
 use lib.Dec.{T, leb, leb→le, not_T}
+use Rattle.std.specs.Prelude.{Ok, Err}
 use Rattle.base.specs.Tests.{pick}
 use Rattle.base.specs.declared.refusal.Refusal.TheVariants.{Argument}
 use Rattle.graph.specs.Memory.{view_of}
@@ -14,7 +15,6 @@ use Rattle.protocol.specs.Equations.{Peopled}
 use Rattle.protocol.proofs.Report as protocol
 use Rattle.protocol.proofs.Table.{tree_is}
 use Rattle.round.specs.Round.{Round}
-use Rattle.round.specs.declared.Report.TheVariants as answer
 use Rattle.round.specs.Holdings.{graph_of, table_of, known_messages}
 use Rattle.round.specs.Handed.{fits}
 use Rattle.round.specs.Report.{told, reported}
@@ -36,7 +36,7 @@ passed_holds_trees r ok p l = tree_is (table_of r) (passed_is_ordered r ok) p �
 
 -- ---- the report
 -- a page shows one verdict
-shown_one : (v w : Verdict) → page_of (told v) ≡ page_of (told w) → v ≡ w
+shown_one : (v w : Verdict) → page_of (Ok (told v)) ≡ page_of (Ok (told w)) → v ≡ w
 shown_one undecided undecided e = refl
 shown_one undecided (decided y) e = absurd (omega (arith, ap (λ (p : Page). p.state) e))
 shown_one undecided (split y w) e = absurd (omega (arith, ap (λ (p : Page). p.state) e))
@@ -47,16 +47,16 @@ shown_one (split x v) undecided e = absurd (omega (arith, ap (λ (p : Page). p.s
 shown_one (split x v) (decided y) e = absurd (omega (arith, ap (λ (p : Page). p.state) e))
 shown_one (split x v) (split y w) e = ap (λ (p : Page). split p.least p.other) e
 
-told_taken : (v : Verdict) → report_number (told v) ≡ 0
+told_taken : (v : Verdict) → report_number (Ok (told v)) ≡ 0
 told_taken undecided = refl
 told_taken (decided x) = refl
 told_taken (split x y) = refl
 
-tells : (r : Round) (a : ℕ) → T (fits r) → a < r.graph.learners → reported r a ≡ told (report (graph_of r) (known_messages r) a)
+tells : (r : Round) (a : ℕ) → T (fits r) → a < r.graph.learners → reported r a ≡ Ok (told (report (graph_of r) (known_messages r) a))
 unfolding reported
 tells r a ok l = past (fits r) (leb r.graph.learners a) ok (not_T (leb r.graph.learners a) (λ t. omega (arith, leb→le r.graph.learners a t)))
   where
-    past : (x y : Bool) → T x → T (not y) → pick (not x || y) (answer.Refused Argument) (told (report (graph_of r) (known_messages r) a)) ≡ told (report (graph_of r) (known_messages r) a)
+    past : (x y : Bool) → T x → T (not y) → pick (not x || y) (Err Argument) (Ok (told (report (graph_of r) (known_messages r) a))) ≡ Ok (told (report (graph_of r) (known_messages r) a))
     past true true f k = absurd k
     past true false f k = refl
     past false y f k = absurd f
@@ -69,7 +69,7 @@ report_says r a ok l peopled =
       taken = ap report_number e ∙ told_taken w;
       shows = λ v.
           let (to, from) = protocol.report_says (graph_of r) (known_messages r) a peopled v in
-          (λ q. to (shown_one w v (sym (ap page_of e) ∙ q)), λ h. ap page_of e ∙ ap (λ (x : Verdict). page_of (told x)) (from h));
+          (λ q. to (shown_one w v (sym (ap page_of e) ∙ q)), λ h. ap page_of e ∙ ap (λ (x : Verdict). page_of (Ok (told x))) (from h));
     }
 
 -- ---- from an opening

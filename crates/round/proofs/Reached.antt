@@ -8,17 +8,17 @@ use Prim.Native.Nat.{ℕ, ◌+◌, ◌<◌}
 use native.Mathlib.Omega.{arith}
 use lib.ListN.{length, length-append}
 use lib.Dec.{T, eqb}
+use Rattle.std.specs.Prelude.{Ok, Some}
 use Rattle.base.specs.Tests.{◌∈◌}
 use Rattle.base.proofs.Tests.{or_l}
 use Rattle.protocol.specs.Ids.{Id}
 use Rattle.protocol.specs.Table.{Table, Held, places, node_by, tree}
 use Rattle.round.specs.Round.{Round}
-use Rattle.round.specs.declared.Outcome.{Outcome}
-use Rattle.round.specs.declared.Outcome.TheVariants as outcome
+use Rattle.round.specs.Outcomes.{Outcome}
 use Rattle.round.specs.Holdings.{table_of, is_known, place_of}
 use Rattle.round.specs.Handed.{fits}
 use Rattle.round.specs.Premises.{Typed}
-use Rattle.round.specs.Delivery.{Result}
+use Rattle.round.specs.Delivery.{Effect}
 use Rattle.round.proofs.Step.{Records, Same, Returns, Appends, Arrives, Silent, Sends, Step}
 use Rattle.round.proofs.Canonical.{place_there, table_size, place_law, Canonical, canonical_law}
 use Rattle.round.proofs.Kept.{Source, Checks, Kept, kept_same, kept_returned, returns_enter}
@@ -89,7 +89,7 @@ answers_grow {s = s} (inl e) = record {
 }
 answers_grow (inr e) = appends_grow e.same e.appends
 
-pub step_grows : {H : List ℕ → Id} {r : Round} {b : List ℕ} {d : Result} → Step H r b d → Grows r d.round
+pub step_grows : {H : List ℕ → Id} {r : Round} {b : List ℕ} {d : Effect} → Step H r b d → Grows r d.round
 step_grows s = grows_trans (arrives_grow s.arrives) (answers_grow s.answers)
 
 -- ---- the invariant is kept
@@ -146,7 +146,7 @@ module _ (H : List ℕ → Id) (A W : List (List ℕ)) where
       unknown x = subst T (ap (is_known t) (table_size s) ∙ e.appends.new) x
 
   -- a delivery that is not refused
-  pub step_keeps : (r : Round) (b : List ℕ) (d : Result) → b ∈ A → (d.outcome ≡ outcome.Replied (length d.reply) → d.reply ∈ W)
+  pub step_keeps : (r : Round) (b : List ℕ) (d : Effect) → b ∈ A → (d.outcome ≡ Ok (Some (length d.reply)) → d.reply ∈ W)
       → Step H r b d → Reached H A W r → Reached H A W d.round
   step_keeps r b d in_a inW s reached = record {
     typed = s.typed;

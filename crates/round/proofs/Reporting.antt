@@ -4,6 +4,7 @@ use mathlib.Core.Path.{◌≡◌, sym, ap, ◌∙◌}
 use mathlib.Core.List.{List}
 use Prim.Native.Nat.{ℕ, ◌<◌}
 use native.Mathlib.Omega.{arith}
+use Rattle.std.specs.Prelude.{Ok}
 use Rattle.base.specs.Tests.{◌∈◌}
 use Rattle.base.specs.Ballots.{value_of}
 use Rattle.graph.specs.LearnerGraph.{LearnerGraph}
@@ -64,14 +65,14 @@ module _ (laws : CallLaws) {H : List ℕ → Id} (rule : IdRule H) {file : List 
   decided_over p i d =
       let s = page_in_list laws rule starts l c p i in
       let x = reported s.round c in
-      let e : x ≡ Decided p.least = decided_page x s.taken (sym (ap (λ (q : Page). q.state) s.shows) ∙ d) ∙ ap (λ (q : Page). Decided q.least) (sym s.shows) in
+      let e : x ≡ Ok (Decided p.least) = decided_page x s.taken (sym (ap (λ (q : Page). q.state) s.shows) ∙ d) ∙ ap (λ (q : Page). Ok (Decided q.least)) (sym s.shows) in
       over (decided p.least) p s (decided_report s.round c p.least e).1
 
   pub split_over : (p : Page) → p ∈ pages c (run H r l) → p.state ≡ split_state → Reports G M c (split p.least p.other)
   split_over p i d =
       let s = page_in_list laws rule starts l c p i in
       let x = reported s.round c in
-      let e : x ≡ Split p.least p.other = split_page x s.taken (sym (ap (λ (q : Page). q.state) s.shows) ∙ d) ∙ ap (λ (q : Page). Split q.least q.other) (sym s.shows) in
+      let e : x ≡ Ok (Split p.least p.other) = split_page x s.taken (sym (ap (λ (q : Page). q.state) s.shows) ∙ d) ∙ ap (λ (q : Page). Ok (Split q.least q.other)) (sym s.shows) in
       over (split p.least p.other) p s (split_report s.round c p.least p.other e)
 
 -- ---- one value in one lawful set of messages

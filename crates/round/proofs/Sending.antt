@@ -9,6 +9,7 @@ use native.Mathlib.Omega.{arith}
 use lib.Dec.{T, eqb, eqb→eq, eqb_refl}
 use lib.ListN.{length}
 use borrow.Author.Tests.{ne_eqb, eq-eqb}
+use Rattle.std.specs.Prelude.{Ok}
 use Rattle.base.specs.Tests.{◌∈◌, pick}
 use Rattle.base.proofs.Tests.{or_l, or_r, or_out, map_in, map_out}
 use Rattle.base.proofs.Bytes.{part_length}
@@ -19,7 +20,7 @@ use Rattle.message.specs.Reader.{reading, previous_in}
 use Rattle.message.specs.Writer.{acceptor_bytes, has_previous}
 use Rattle.message.specs.Demands.{AcceptorFields, AcceptorBack, acceptor_of}
 use Rattle.message.specs.declared.AcceptorMessage.{AcceptorMessage}
-use Rattle.message.specs.declared.Reading.TheVariants.{OfAcceptor}
+use Rattle.message.specs.declared.Message.TheVariants.{OfAcceptor}
 use Rattle.message.proofs.RoundTrip.{acceptor_reads_back}
 use Rattle.protocol.specs.Ids.{Id}
 use Rattle.round.specs.Round.{Round}
@@ -118,7 +119,7 @@ module _ (r : Round) (typed : Typed r) (fit : Fitting r) (p : ℕ) (here : p < r
   abbrev pub reply_fields : AcceptorMessage
   reply_fields = acceptor_of r.house r.bay r.own (or_empty r (named r r.last)) (length (reply_places r p))
 
-  pub reply_reads : reading (reply_bytes r p) ≡ OfAcceptor reply_fields
+  pub reply_reads : reading (reply_bytes r p) ≡ Ok (OfAcceptor reply_fields)
   unfolding reply_bytes
   reply_reads = back.fields
 

@@ -7,6 +7,7 @@ use native.Mathlib.Omega.{arith}
 use lib.Dec.{leb}
 use lib.ListN.{length, take, drop}
 use lib.Seq.{take-append_seam}
+use Rattle.std.specs.Prelude.{Ok, Err}
 use Rattle.base.specs.Tests.{pick}
 use Rattle.base.specs.declared.refusal.Refusal.TheVariants.{Argument}
 use Rattle.message.proofs.Checks.{of_acceptor}
@@ -23,7 +24,7 @@ use Rattle.round.proofs.OneCall.{shape, reply_reads_back_lem}
 use Rattle.round.proofs.Answers.{replied_number, undecided_page}
 
 -- ---- the report
-told_undecided : (t : Bool) (v : Verdict) → pick t (answer.Refused Argument) (told v) ≡ answer.Undecided → v ≡ undecided
+told_undecided : (t : Bool) (v : Verdict) → pick t (Err Argument) (Ok (told v)) ≡ Ok answer.Undecided → v ≡ undecided
 told_undecided true v e = let z : ◌≡◌ {A = ℕ} 0 1 = cc in absurd (omega arith)
 told_undecided false undecided e = refl
 told_undecided false (decided x) e = let z : ◌≡◌ {A = ℕ} 0 1 = cc in absurd (omega arith)

@@ -7,36 +7,35 @@ use mathlib.Core.List.{List, [], ◌∷◌, ◌++◌}
 use Prim.Native.Nat.{ℕ, ◌+◌, ◌<◌}
 use lib.Dec.{T, eqb}
 use lib.ListN.{length}
+use Rattle.std.specs.Prelude.{Ok, Err, Some, None}
 use Rattle.base.specs.Tests.{◌∈◌}
 use Rattle.base.specs.declared.refusal.Refusal.{Refusal}
 use Rattle.message.specs.Reader.{reading}
-use Rattle.message.specs.declared.Reading.{Reading}
-use Rattle.message.specs.declared.Reading.TheVariants.{OfProposer, OfAcceptor, Refused}
+use Rattle.round.specs.Outcomes.{Reading, Outcome}
+use Rattle.message.specs.declared.Message.TheVariants.{OfProposer, OfAcceptor}
 use Rattle.protocol.specs.Ids.{Id}
 use Rattle.protocol.specs.WellFormed.{chained, formed1b, well_formed}
 use Rattle.protocol.specs.Table.{Held, held_id, places, offered, node_by, tree, Content, plain, joint, content_of}
 use Rattle.round.specs.Round.{Round}
-use Rattle.round.specs.declared.Outcome.{Outcome}
-use Rattle.round.specs.declared.Outcome.TheVariants as outcome
 use Rattle.round.specs.Holdings.{graph_of, is_voting, id_at, named, table_of, is_known, place_of}
 use Rattle.round.specs.Handed.{fits}
 use Rattle.round.specs.Rows.{reference_ids, previous_id}
-use Rattle.round.specs.Delivery.{Result, delivery}
+use Rattle.round.specs.Delivery.{Effect, delivery}
 use Rattle.round.specs.Premises.{IdRule, Typed}
 use Rattle.round.specs.Demands.{Names}
 
 -- what bytes that were read say, as the content of a record
 abbrev pub content_read : List ℕ → Reading → Content
-content_read b (OfProposer m) = plain m.proposer m.ballot
-content_read b (OfAcceptor m) = joint m.signer (previous_id b m) (reference_ids b m)
-content_read b (Refused e) = plain 0 0
+content_read b (Ok (OfProposer m)) = plain m.proposer m.ballot
+content_read b (Ok (OfAcceptor m)) = joint m.signer (previous_id b m) (reference_ids b m)
+content_read b (Err e) = plain 0 0
 
 abbrev pub content_in : List ℕ → Content
 content_in b = content_read b (reading b)
 
 -- bytes that are read
 abbrev pub Readable : List ℕ → Type 0
-Readable b = (e : Refusal) → reading b ≢ Refused e
+Readable b = (e : Refusal) → reading b ≢ Err e
 
 -- h is the record of the bytes b over the table of r, and each place that it refers to is the one that its id names
 pub record Records (H : List ℕ → Id) (r : Round) (b : List ℕ) (h : Held) : Type 0 where
@@ -82,7 +81,7 @@ pub record Arrives (H : List ℕ → Id) (r s : Round) (b : List ℕ) : Type 0 w
 
 -- ---- then nothing is sent, or one message: s before, t after
 pub record Silent (s t : Round) (o : Outcome) (reply : List ℕ) : Type 0 where
-  pub outcome : o ≡ outcome.Accepted
+  pub outcome : o ≡ Ok None
   pub nothing : reply ≡ []
   pub held : t.held ≡ s.held
   pub table : table_of t ≡ table_of s
@@ -91,7 +90,7 @@ pub record Silent (s t : Round) (o : Outcome) (reply : List ℕ) : Type 0 where
   pub last : named t t.last ≡ named s s.last
 
 pub record Sends (H : List ℕ → Id) (s t : Round) (o : Outcome) (reply : List ℕ) : Type 0 where
-  pub outcome : o ≡ outcome.Replied (length reply)
+  pub outcome : o ≡ Ok (Some (length reply))
   pub voting : T (is_voting s)
   pub record' : Held
   pub is_vote : T (not (offered record'))
@@ -103,7 +102,7 @@ pub record Sends (H : List ℕ → Id) (s t : Round) (o : Outcome) (reply : List
   pub formed : T (well_formed (graph_of s) (node_by (tree (table_of s)) record'))
 
 -- ---- the law of one delivery
-pub record Step (H : List ℕ → Id) (r : Round) (b : List ℕ) (d : Result) : Type 0 where
+pub record Step (H : List ℕ → Id) (r : Round) (b : List ℕ) (d : Effect) : Type 0 where
   pub between : Round
   pub arrives : Arrives H r between b
   pub answers : Silent between d.round d.outcome d.reply ⊎ Sends H between d.round d.outcome d.reply
@@ -112,4 +111,4 @@ pub record Step (H : List ℕ → Id) (r : Round) (b : List ℕ) (d : Result) : 
 
 abbrev pub StepLaw : Type 0
 StepLaw = (H : List ℕ → Id) → IdRule H → (r : Round) → Typed r → (b buffer : List ℕ)
-    → ((e : Refusal) → (delivery H r b buffer).outcome ≢ outcome.Refused e) → Step H r b (delivery H r b buffer)
+    → ((e : Refusal) → (delivery H r b buffer).outcome ≢ Err e) → Step H r b (delivery H r b buffer)

@@ -7,13 +7,13 @@ use mathlib.Core.List.{List, [], ◌∷◌, ◌++◌}
 use Prim.Native.Nat.{ℕ, ◌<◌}
 use native.Mathlib.Omega.{arith}
 use lib.Dec.{T, eqb, eqb→eq, eqb_refl}
+use Rattle.std.specs.Prelude.{Err}
 use Rattle.base.proofs.Tests.{or_r, dec_T, neqb→ne}
 use Rattle.base.specs.declared.refusal.Refusal.{Refusal}
 use Rattle.protocol.specs.Ids.{Id}
 use Rattle.protocol.specs.Table.{Table, Held, at, held_id}
 use Rattle.protocol.proofs.Growth.{at_append, at_end}
 use Rattle.round.specs.Round.{Round}
-use Rattle.round.specs.declared.Outcome.TheVariants as outcome
 use Rattle.round.specs.Holdings.{id_at, table_of, is_known, place_of}
 use Rattle.round.specs.Rows.{placed, is_known_id}
 use Rattle.round.specs.Delivery.{delivery}
@@ -96,7 +96,7 @@ round_stays_itself H rule r typed b buffer = by (refused_or_not (delivery H r b 
     s : Round
     s = (delivery H r b buffer).round
 
-    by : ((e : Refusal) × ((delivery H r b buffer).outcome ≡ outcome.Refused e)) ⊎ ((e : Refusal) → (delivery H r b buffer).outcome ≢ outcome.Refused e)
+    by : ((e : Refusal) × ((delivery H r b buffer).outcome ≡ Err e)) ⊎ ((e : Refusal) → (delivery H r b buffer).outcome ≢ Err e)
         → (s.graph ≡ r.graph) × (s.house ≡ r.house) × (s.bay ≡ r.bay) × (s.own ≡ r.own)
     by (inl (e, k)) =
         let same = (refused_leaves_all_lem H r b buffer e k).0 in

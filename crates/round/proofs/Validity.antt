@@ -6,12 +6,13 @@ use mathlib.Core.List.{List}
 use Prim.Native.Nat.{ℕ, ◌≤◌, ◌<◌}
 use native.Mathlib.Omega.{arith}
 use lib.Dec.{T, T_not}
+use Rattle.std.specs.Prelude.{Ok}
 use Rattle.base.specs.Tests.{◌∈◌}
 use Rattle.graph.specs.Memory.{view_of}
 use Rattle.graph.specs.declared.Graph.{Graph}
 use Rattle.message.specs.Reader.{reading}
 use Rattle.message.specs.declared.Proposal.{Proposal}
-use Rattle.message.specs.declared.Reading.TheVariants.{OfProposer}
+use Rattle.message.specs.declared.Message.TheVariants.{OfProposer}
 use Rattle.protocol.specs.Ids.{Id}
 use Rattle.protocol.specs.Message.{Message, is_proposal, proposed, tran, ballot}
 use Rattle.protocol.specs.Report.{decided}
@@ -40,7 +41,7 @@ use Rattle.round.proofs.Bytes.{held_ballot, node_proposed, proposal_read, decide
 
 -- a proposal of ballot x was accepted
 abbrev Offered : List (List ℕ) → ℕ → Type 0
-Offered A x = (m : List ℕ) × (m ∈ A) × ((f : Proposal) × (reading m ≡ OfProposer f) × (f.ballot ≡ x))
+Offered A x = (m : List ℕ) × (m ∈ A) × ((f : Proposal) × (reading m ≡ Ok (OfProposer f)) × (f.ballot ≡ x))
 
 module _ {H : List ℕ → Id} {A W : List (List ℕ)} {s : Round} (reached : Reached H A W s) where
   -- a held proposal was accepted
@@ -66,7 +67,7 @@ module _ {H : List ℕ → Id} {A W : List (List ℕ)} {s : Round} (reached : Re
           (c.bytes, in_a c.from, (f, d, e ∙ sym ballots))
 
   -- what is decided was proposed
-  decided_offered : (a x : ℕ) → Peopled (graph_of s) a → reported s a ≡ Decided x → Offered A x
+  decided_offered : (a x : ℕ) → Peopled (graph_of s) a → reported s a ≡ Ok (Decided x) → Offered A x
   decided_offered a x peopled e =
       let dec = ((report_law (graph_of s) (known_messages s) a (decided x)).0 (decided_report s a x e).1).0.0.0 in
       let (m, k, (y, i, t, b, _)) = validity (graph_of s) a peopled (known_messages s) x dec in
@@ -81,7 +82,7 @@ validity_over_lists laws H rule file house bay own r starts l a p m d =
     let fresh = laws.opening file house bay own r starts in
     let stands : Stands H (accepted (run H r l)) (written (run H r l)) a p (last_round H r l) = page_in_list laws rule starts l a p m in
     let x = reported stands.round a in
-    let e : x ≡ Decided p.least = decided_page x stands.taken (sym (ap (λ (q : Page). q.state) stands.shows) ∙ d) ∙ ap (λ (q : Page). Decided q.least) (sym stands.shows) in
+    let e : x ≡ Ok (Decided p.least) = decided_page x stands.taken (sym (ap (λ (q : Page). q.state) stands.shows) ∙ d) ∙ ap (λ (q : Page). Ok (Decided q.least)) (sym stands.shows) in
     let graph : r.graph ≡ stands.round.graph = (reached_last laws rule starts l).1.same.graph ∙ sym stands.until.same.graph in
     let learner : a < stands.round.graph.learners = (decided_report stands.round a p.least e).0 in
     decided_offered stands.reached a p.least

@@ -9,13 +9,14 @@ use Prim.Native.Nat.{ℕ, ◌<◌}
 use native.Mathlib.Omega.{arith}
 use lib.Dec.{T}
 use lib.ListN.{length, take}
+use Rattle.std.specs.Prelude.{Ok, Some}
 use Rattle.base.specs.Tests.{◌∈◌}
 use Rattle.base.proofs.Tests.{map_out, below_in}
 use Rattle.graph.specs.LearnerGraph.{LearnerGraph}
 use Rattle.graph.specs.Memory.{view_of}
 use Rattle.message.specs.Reader.{reading}
 use Rattle.message.specs.declared.AcceptorMessage.{AcceptorMessage}
-use Rattle.message.specs.declared.Reading.TheVariants.{OfAcceptor}
+use Rattle.message.specs.declared.Message.TheVariants.{OfAcceptor}
 use Rattle.protocol.specs.Ids.{Id}
 use Rattle.protocol.specs.Message.{Message, id_of, previous}
 use Rattle.protocol.specs.WellFormed.{well_formed}
@@ -28,11 +29,10 @@ use Rattle.protocol.proofs.Tables.{messages_in, chained_set}
 use Rattle.protocol.proofs.Growth.{at_append, at_end, tree_append, tree_end, ordered_front}
 use Rattle.protocol.proofs.Votes.{few_votes}
 use Rattle.round.specs.Round.{Round}
-use Rattle.round.specs.declared.Outcome.{Outcome}
-use Rattle.round.specs.declared.Outcome.TheVariants as outcome
+use Rattle.round.specs.Outcomes.{Outcome}
 use Rattle.round.specs.Holdings.{graph_of, table_of, place_of}
 use Rattle.round.specs.Rows.{reference_ids, previous_id, or_zero}
-use Rattle.round.specs.Delivery.{record_read, message_read, Result, delivery, replied}
+use Rattle.round.specs.Delivery.{record_read, message_read, Effect, delivery, replied}
 use Rattle.round.specs.Lists.{Call, deliver, report, seen, run, last_round, accepted, written}
 use Rattle.round.specs.Premises.{IdRule}
 use Rattle.round.specs.Demands.{NoCollision, ChainFrom}
@@ -99,11 +99,11 @@ module _ (laws : CallLaws) (H : List ℕ → Id) (rule : IdRule H) (A W : List (
       step next (list_keeps laws H rule A W d.round l next inA' inW').1 (written_formed l d.round next inA' inW' z)
       (written_cases d.outcome (replied H r b buffer) (written rest) z m)
     where
-      d : Result
+      d : Effect
       d = delivery H r b buffer
 
       -- the reply to this delivery
-      mine : Reached H A W d.round → (n : ℕ) → d.outcome ≡ outcome.Replied n → z ≡ take n (replied H r b buffer) → Formed H z d.round
+      mine : Reached H A W d.round → (n : ℕ) → d.outcome ≡ Ok (Some n) → z ≡ take n (replied H r b buffer) → Formed H z d.round
       mine next n o e = answer kept.answers
         where
           kept : Step H r b d
@@ -118,7 +118,7 @@ module _ (laws : CallLaws) (H : List ℕ → Id) (rule : IdRule H) (A W : List (
               (sends_formed next.kept.ordered k)
 
       step : Reached H A W d.round → Grows d.round (last_round H d.round l) → (z ∈ written (run H d.round l) → Formed H z (last_round H d.round l))
-          → ((n : ℕ) × (d.outcome ≡ outcome.Replied n) × (z ≡ take n (replied H r b buffer))) ⊎ (z ∈ written (run H d.round l)) → Formed H z (last_round H d.round l)
+          → ((n : ℕ) × (d.outcome ≡ Ok (Some n)) × (z ≡ take n (replied H r b buffer))) ⊎ (z ∈ written (run H d.round l)) → Formed H z (last_round H d.round l)
       step next grown others (inl (n, o, e)) = formed_grows next.kept.ordered grown (mine next n o e)
       step next grown others (inr k) = others k
 
@@ -150,15 +150,15 @@ module _ {H : List ℕ → Id} {A W : List (List ℕ)} {r : Round} (reached : Re
 
 -- ---- messages of which each names the one before it are a line
 module _ (H : List ℕ → Id) (r : Round) where
-  id_read : (z : List ℕ) (f : AcceptorMessage) → reading z ≡ OfAcceptor f → id_of (message_read H r z) ≡ H z
+  id_read : (z : List ℕ) (f : AcceptorMessage) → reading z ≡ Ok (OfAcceptor f) → id_of (message_read H r z) ≡ H z
   unfolding id_of node_by
   id_read z f e = ap (λ x. id_of (node_by (tree (table_of r)) (record_read H r z x))) e
 
-  previous_read : (z : List ℕ) (f : AcceptorMessage) → reading z ≡ OfAcceptor f → previous (message_read H r z) ≡ previous_id z f
+  previous_read : (z : List ℕ) (f : AcceptorMessage) → reading z ≡ Ok (OfAcceptor f) → previous (message_read H r z) ≡ previous_id z f
   unfolding previous node_by
   previous_read z f e = ap (λ x. previous (node_by (tree (table_of r)) (record_read H r z x))) e
 
-  line_from : (z : List ℕ) (f : AcceptorMessage) → reading z ≡ OfAcceptor f → (l : List (List ℕ)) → ChainFrom H (some (H z)) l
+  line_from : (z : List ℕ) (f : AcceptorMessage) → reading z ≡ Ok (OfAcceptor f) → (l : List (List ℕ)) → ChainFrom H (some (H z)) l
       → LineFrom (message_read H r z) (map (message_read H r) l)
   unfolding ChainFrom
   line_from z f e [] chain = tt

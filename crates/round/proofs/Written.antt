@@ -5,14 +5,15 @@ use Prim.Native.Nat.{ℕ, ◌*◌, ◌<◌, ◌≤◌}
 use native.Mathlib.Omega.{arith}
 use lib.ListN.{drop, length-drop}
 use lib.Seq.{take_all}
+use Rattle.std.specs.Prelude.{Ok}
 use Rattle.message.specs.Layout.{id_len, most_references, references_at}
 use Rattle.message.specs.Reader.{reading}
 use Rattle.message.specs.Demands.{references_in}
 use Rattle.message.specs.declared.AcceptorMessage.{AcceptorMessage}
-use Rattle.message.specs.declared.Reading.TheVariants.{OfAcceptor}
+use Rattle.message.specs.declared.Message.TheVariants.{OfAcceptor}
 use Rattle.message.proofs.Checks.{of_acceptor}
 
-module _ (s : List ℕ) (m : AcceptorMessage) (reads : reading s ≡ OfAcceptor m) where
+module _ (s : List ℕ) (m : AcceptorMessage) (reads : reading s ≡ Ok (OfAcceptor m)) where
   -- an acceptor message has 1 to 128 references
   pub counted : (0 < m.count) × (m.count ≤ most_references)
   counted = let c = (of_acceptor s m reads).0.counted in (c.some, c.most)

@@ -1,5 +1,5 @@
 -- A delivery: the checks in their order, then what is held and what is sent. H is the rule that gives bytes their id.
-use Rattle.std.specs.Prelude.{not, ◌||◌, List, [], ℕ, ◌+◌, ◌*◌, ltb, length, set, replicate}
+use Rattle.std.specs.Prelude.{not, ◌||◌, List, [], ℕ, ◌+◌, ◌*◌, ltb, length, set, replicate, Some, None, Ok, Err}
 use Rattle.std.proofs.Math.Option.{Option, none, some}
 use Rattle.base.specs.Tests.{pick}
 use Rattle.base.specs.Bytes.{put_at}
@@ -10,14 +10,12 @@ use Rattle.message.specs.Reader.{reading}
 use Rattle.message.specs.Writer.{fronted}
 use Rattle.message.specs.declared.Proposal.{Proposal}
 use Rattle.message.specs.declared.AcceptorMessage.{AcceptorMessage}
-use Rattle.message.specs.declared.Reading.{Reading}
-use Rattle.message.specs.declared.Reading.TheVariants.{OfProposer, OfAcceptor, Refused}
+use Rattle.message.specs.declared.Message.TheVariants.{OfProposer, OfAcceptor}
 use Rattle.protocol.specs.Ids.{Id}
 use Rattle.protocol.specs.Message.{Message}
 use Rattle.protocol.specs.Table.{Held, offers, says}
 use Rattle.round.specs.Round.{Round}
-use Rattle.round.specs.declared.Outcome.{Outcome}
-use Rattle.round.specs.declared.Outcome.TheVariants as outcome
+use Rattle.round.specs.Outcomes.{Outcome, Reading}
 use Rattle.round.specs.Limits.{max_held, no_place, reply_len}
 use Rattle.round.specs.Holdings.{is_voting, is_proposal_at, place_of}
 use Rattle.round.specs.Handed.{fits}
@@ -100,7 +98,7 @@ abbrev pub recent_with : Round → ℕ → List ℕ
 recent_with r p = pick (is_proposal_at r p) r.recent (set r.recent p 1)
 
 -- what a delivery gives: the answer, the next round, and the bytes put to the front of the reply buffer
-pub record Result : Type 0 where
+pub record Effect : Type 0 where
   pub outcome : Outcome
   pub round : Round
   pub reply : List ℕ
@@ -111,15 +109,15 @@ pub record Delivered : Type 0 where
   pub round : Round
 
 -- a refusal is its number alone: the round is as it was, and nothing is written
-abbrev pub refused : Round → Refusal → Result
-refused r e = record { outcome = outcome.Refused e; round = r; reply = [] }
+abbrev pub refused : Round → Refusal → Effect
+refused r e = record { outcome = Err e; round = r; reply = [] }
 
 module _ (H : List ℕ → Id) where
   -- ---- the record of the message that the bytes b say, over the messages that r holds (bytes that do not read say none)
   abbrev pub record_read : Round → List ℕ → Reading → Held
-  record_read r b (OfProposer f) = offers (H b) f.proposer f.ballot
-  record_read r b (OfAcceptor f) = vote_record r (H b) f.signer (previous_id b f) (reference_ids b f)
-  record_read r b (Refused e) = offers [] 0 0
+  record_read r b (Ok (OfProposer f)) = offers (H b) f.proposer f.ballot
+  record_read r b (Ok (OfAcceptor f)) = vote_record r (H b) f.signer (previous_id b f) (reference_ids b f)
+  record_read r b (Err e) = offers [] 0 0
 
   -- this message
   abbrev pub message_read : Round → List ℕ → Message
@@ -131,54 +129,54 @@ module _ (H : List ℕ → Id) where
 
   -- ---- after acceptance: r holds the message at place p
   -- "If z is well-formed it is written to the reply buffer, held as awaiting return, becomes last sent, and recent becomes {z}."
-  abbrev pub sent : Round → ℕ → List ℕ → Result
+  abbrev pub sent : Round → ℕ → List ℕ → Effect
   sent r p z =
       record {
-        outcome = outcome.Replied (length z);
+        outcome = Ok (Some (length z));
         round = with_recent (hold r (reply_record r (H z) p) 0) r.held (set (replicate max_held 0) r.held 1);
         reply = z;
       }
 
   -- "Otherwise m joins recent unless it is a proposal."
-  abbrev pub joins : Round → ℕ → Result
+  abbrev pub joins : Round → ℕ → Effect
   joins r p =
       record {
-        outcome = outcome.Accepted;
+        outcome = Ok None;
         round = with_recent r r.last (recent_with r p);
         reply = [];
       }
 
-  abbrev pub answered : Round → ℕ → List ℕ → Result
+  abbrev pub answered : Round → ℕ → List ℕ → Effect
   answered r p z = pick (is_sent r (message_of r (reply_record r (H z) p))) (sent r p z) (joins r p)
 
-  unfoldable pub processed : Round → ℕ → Result
-  processed r p = pick (is_voting r) (answered r p (reply_bytes r p)) (record { outcome = outcome.Accepted; round = r; reply = [] })
+  unfoldable pub processed : Round → ℕ → Effect
+  processed r p = pick (is_voting r) (answered r p (reply_bytes r p)) (record { outcome = Ok None; round = r; reply = [] })
 
   -- ---- an accepted message becomes known, and is answered
-  abbrev pub entered : Round → Held → Option ℕ → Result
+  abbrev pub entered : Round → Held → Option ℕ → Effect
   entered r h o = processed (entered_in r h o) (entered_at r o)
 
   -- refused by the first row that applies, or else entered
-  abbrev pub decided_by : Round → Id → Held → Option Refusal → Result
+  abbrev pub decided_by : Round → Id → Held → Option Refusal → Effect
   decided_by r i h (some e) = refused r e
   decided_by r i h none = entered r h (place_of r i)
 
-  abbrev pub proposal_taken : Round → Id → Proposal → Result
+  abbrev pub proposal_taken : Round → Id → Proposal → Effect
   proposal_taken r i m = decided_by r i (offers i m.proposer m.ballot) (first_of (proposal_rows r i m))
 
-  abbrev pub acceptor_taken : Round → Id → AcceptorMessage → Option Id → List Id → Result
+  abbrev pub acceptor_taken : Round → Id → AcceptorMessage → Option Id → List Id → Effect
   acceptor_taken r i m previous ids =
       let h = vote_record r i m.signer previous ids in
       decided_by r i h (first_of (acceptor_rows r i m previous ids (message_of r h)))
 
   -- what the bytes b say
-  abbrev pub taken : Round → List ℕ → Reading → Result
-  taken r b (Refused e) = refused r e
-  taken r b (OfProposer m) = proposal_taken r (H b) m
-  taken r b (OfAcceptor m) = acceptor_taken r (H b) m (previous_id b m) (reference_ids b m)
+  abbrev pub taken : Round → List ℕ → Reading → Effect
+  taken r b (Err e) = refused r e
+  taken r b (Ok (OfProposer m)) = proposal_taken r (H b) m
+  taken r b (Ok (OfAcceptor m)) = acceptor_taken r (H b) m (previous_id b m) (reference_ids b m)
 
   -- "Checks run in this order: 17", the reader's, "then 8 to 16"
-  unfoldable pub delivery : Round → List ℕ → List ℕ → Result
+  unfoldable pub delivery : Round → List ℕ → List ℕ → Effect
   delivery r b buffer = pick (not (fits r) || ltb (length buffer) reply_len) (refused r Argument) (taken r b (reading b))
 
   -- what `deliver` answers, and the reply buffer afterwards: "bytes behind it keep their values"

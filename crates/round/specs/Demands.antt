@@ -1,6 +1,6 @@
 -- What the owner asked for, as propositions; proofs/ proves each under the same name. H is the rule that gives bytes their id: SHA-256 in
 -- the calls, and any rule that gives 32 bytes here.
-use Rattle.std.specs.Prelude.{◌≡◌, ◌≢◌, ◌⊎◌, Bool, not, List, [], ◌∷◌, ◌++◌, map, ℕ, ◌+◌, ◌<◌, T, take, drop}
+use Rattle.std.specs.Prelude.{◌≡◌, ◌≢◌, ◌⊎◌, Bool, not, List, [], ◌∷◌, ◌++◌, map, ℕ, ◌+◌, ◌<◌, T, take, drop, Ok}
 use Rattle.std.proofs.Math.Option.{Option, none, some}
 use Rattle.base.specs.Tests.{◌∈◌}
 use Rattle.base.specs.Refusals.{number_of}
@@ -11,7 +11,7 @@ use Rattle.graph.specs.LearnerGraph.{LearnerGraph, is_safe}
 use Rattle.message.specs.Reader.{reading}
 use Rattle.message.specs.declared.Proposal.{Proposal}
 use Rattle.message.specs.declared.AcceptorMessage.{AcceptorMessage}
-use Rattle.message.specs.declared.Reading.TheVariants.{OfProposer, OfAcceptor}
+use Rattle.message.specs.declared.Message.TheVariants.{OfProposer, OfAcceptor}
 use Rattle.protocol.specs.Ids.{Id}
 use Rattle.protocol.specs.Message.{Message}
 use Rattle.protocol.specs.Table.{reach}
@@ -28,14 +28,14 @@ use Rattle.round.specs.Premises.{IdRule, Starts, Typed}
 -- the house and bay that bytes name
 abbrev pub AddressedTo : List ℕ → ℕ → ℕ → Type 0
 AddressedTo b house bay =
-    ((f : Proposal) × (reading b ≡ OfProposer f) × (f.house ≡ house) × (f.bay ≡ bay))
-    ⊎ ((f : AcceptorMessage) × (reading b ≡ OfAcceptor f) × (f.house ≡ house) × (f.bay ≡ bay))
+    ((f : Proposal) × (reading b ≡ Ok (OfProposer f)) × (f.house ≡ house) × (f.bay ≡ bay))
+    ⊎ ((f : AcceptorMessage) × (reading b ≡ Ok (OfAcceptor f)) × (f.house ≡ house) × (f.bay ≡ bay))
 
 -- ---- DEMAND 3, AGREEMENT
 -- two different messages of M, both of acceptor p, "that name the same previous message or both name none"
 abbrev pub Equivocates : List (List ℕ) → ℕ → Type 0
 Equivocates M p = (m n : List ℕ) × (m ∈ M) × (n ∈ M) × (m ≢ n)
-    × ((f g : AcceptorMessage) × (reading m ≡ OfAcceptor f) × (reading n ≡ OfAcceptor g)
+    × ((f g : AcceptorMessage) × (reading m ≡ Ok (OfAcceptor f)) × (reading n ≡ Ok (OfAcceptor g))
     × (f.signer ≡ p) × (g.signer ≡ p) × (previous_id m f ≡ previous_id n g))
 
 -- "some safe set on their edge hold no acceptor" that does so
@@ -69,7 +69,7 @@ AgreementOverLists = (H : List ℕ → Id) → IdRule H → AgreementWith H
 -- ---- DEMAND 3, THE CHAIN
 -- a written message names a previous id, or none
 abbrev pub Names : List ℕ → Option Id → Type 0
-Names z p = (f : AcceptorMessage) × (reading z ≡ OfAcceptor f) × (previous_id z f ≡ p)
+Names z p = (f : AcceptorMessage) × (reading z ≡ Ok (OfAcceptor f)) × (previous_id z f ≡ p)
 
 -- each message names the one before it, and the first one names p
 unfoldable pub ChainFrom : (List ℕ → Id) → Option Id → List (List ℕ) → Type 0
@@ -139,11 +139,11 @@ KnownBeneath = (H : List ℕ → Id) → IdRule H → (file : List ℕ) (house b
 abbrev pub ValidityOverLists : Type 0
 ValidityOverLists = (H : List ℕ → Id) → IdRule H → (file : List ℕ) (house bay own : ℕ) (r : Round) → Starts file house bay own r
     → (l : List Call) (a : ℕ) (p : Page) → p ∈ pages a (run H r l) → p.state ≡ decided_state
-    → (m : List ℕ) × (m ∈ accepted (run H r l)) × ((f : Proposal) × (reading m ≡ OfProposer f) × (f.ballot ≡ p.least))
+    → (m : List ℕ) × (m ∈ accepted (run H r l)) × ((f : Proposal) × (reading m ≡ Ok (OfProposer f)) × (f.ballot ≡ p.least))
 
 -- a written message is the own acceptor's, and one that names a previous message refers to it, as row 12 asks of a message that arrives
 abbrev pub OwnChained : ℕ → List ℕ → Type 0
-OwnChained own z = (f : AcceptorMessage) × (reading z ≡ OfAcceptor f) × (f.signer ≡ own) × ((i : Id) → previous_id z f ≡ some i → i ∈ reference_ids z f)
+OwnChained own z = (f : AcceptorMessage) × (reading z ≡ Ok (OfAcceptor f)) × (f.signer ≡ own) × ((i : Id) → previous_id z f ≡ some i → i ∈ reference_ids z f)
 
 abbrev pub ReplyIsChained : Type 0
 ReplyIsChained = (H : List ℕ → Id) → IdRule H → (file : List ℕ) (house bay own : ℕ) (r : Round) → Starts file house bay own r
@@ -162,7 +162,7 @@ RecentId r i = (q : ℕ) × (q < r.held) × T (is_recent r q) × (id_at r q ≡ 
 
 -- what z says as the reply of the round r, as it was before the delivery, to a message with the id m
 abbrev pub ReplySays : Round → Id → List ℕ → Type 0
-ReplySays r m z = (f : AcceptorMessage) × (reading z ≡ OfAcceptor f)
+ReplySays r m z = (f : AcceptorMessage) × (reading z ≡ Ok (OfAcceptor f))
     × (f.house ≡ r.house) × (f.bay ≡ r.bay) × (f.signer ≡ r.own) × (previous_id z f ≡ named r r.last)
     × ((i : Id) → (i ∈ reference_ids z f → (i ≡ m) ⊎ RecentId r i) × ((i ≡ m) ⊎ RecentId r i → i ∈ reference_ids z f))
 

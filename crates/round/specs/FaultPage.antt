@@ -1,11 +1,11 @@
 -- A shorter fault page: what let row 13, "no proposal in Tran", be struck. proofs/Struck proves each under the same name.
-use Rattle.std.specs.Prelude.{◌≡◌, Bool, not, List, [], ◌∷◌, ℕ, T}
+use Rattle.std.specs.Prelude.{◌≡◌, Bool, not, List, [], ◌∷◌, ℕ, T, Ok}
 use Rattle.std.proofs.Math.Option.{Option, none, some, map}
 use Rattle.base.specs.Tests.{pick, any}
 use Rattle.base.specs.Refusals.{number_of}
 use Rattle.message.specs.Reader.{reading}
 use Rattle.message.specs.declared.AcceptorMessage.{AcceptorMessage}
-use Rattle.message.specs.declared.Reading.TheVariants.{OfAcceptor}
+use Rattle.message.specs.declared.Message.TheVariants.{OfAcceptor}
 use Rattle.protocol.specs.Ids.{Id}
 use Rattle.protocol.specs.Message.{Message, is_proposal, tran}
 use Rattle.protocol.specs.Table.{tree}
@@ -21,11 +21,11 @@ grounded m = any is_proposal (tran m)
 
 -- the acceptor message that the bytes b say, over the messages that r holds
 abbrev pub arriving : (List ℕ → Id) → Round → List ℕ → AcceptorMessage → Message
-arriving H r b f = message_of r (record_read H r b (OfAcceptor f))
+arriving H r b f = message_of r (record_read H r b (Ok (OfAcceptor f)))
 
 -- "An acceptor message has a reference, each reference is to a known message, so a proposal always lies beneath."
 abbrev pub GroundedIn : (List ℕ → Id) → Round → Type 0
-GroundedIn H r = (b : List ℕ) (f : AcceptorMessage) → reading b ≡ OfAcceptor f
+GroundedIn H r = (b : List ℕ) (f : AcceptorMessage) → reading b ≡ Ok (OfAcceptor f)
     → T (not (lacks r (reference_ids b f))) → T (grounded (arriving H r b f))
 
 -- "Show this for every round that passes 17": of a `Typed` one, whose table has each reference that a count names. A round in bytes always is
@@ -54,7 +54,7 @@ first_number ((applies, n) ∷ l) = pick applies (some n) (first_number l)
 
 -- "Growers see the same acceptances as before": a message is turned down by the row that turned it down before, or by none where none did
 abbrev pub SameRowIn : (List ℕ → Id) → Round → Type 0
-SameRowIn H r = (b : List ℕ) (f : AcceptorMessage) → reading b ≡ OfAcceptor f
+SameRowIn H r = (b : List ℕ) (f : AcceptorMessage) → reading b ≡ Ok (OfAcceptor f)
     → first_number (former_rows r (H b) f (previous_id b f) (reference_ids b f) (arriving H r b f))
     ≡ map number_of (first_of (acceptor_rows r (H b) f (previous_id b f) (reference_ids b f) (arriving H r b f)))
 

@@ -6,6 +6,8 @@ pub mod Round
 pub mod Holdings
 -- Row 17: what is asked of a round handed in
 pub mod Handed
+-- What the calls answer
+pub mod Outcomes
 -- Opening a round
 pub mod Opening
 -- Rows 8 to 16, and their order

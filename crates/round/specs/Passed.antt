@@ -1,6 +1,6 @@
 -- What holds of every round that passes 17, and so of every round that a call looks at, whether an opening led to it or not; as propositions,
 -- and proofs/ proves each under the same name.
-use Rattle.std.specs.Prelude.{◌≡◌, ◌↔◌, List, ℕ, ◌<◌, T}
+use Rattle.std.specs.Prelude.{◌≡◌, ◌↔◌, List, ℕ, ◌<◌, T, Ok}
 use Rattle.protocol.specs.Ids.{Id}
 use Rattle.protocol.specs.Table.{Ordered, tree}
 use Rattle.protocol.specs.Report.{decides, Verdict}
@@ -33,7 +33,7 @@ SaysOf r a v = Says (λ x. T (decides (graph_of r) (known_messages r) a x)) v
 -- the report for a is not turned down, and shows a verdict exactly if the ballots that decide are as the verdict says
 pub record ShowsWhatIs (r : Round) (a : ℕ) : Type 0 where
   pub taken : reported_number r a ≡ 0
-  pub shows : (v : Verdict) → (reported_page r a ≡ page_of (told v)) ↔ SaysOf r a v
+  pub shows : (v : Verdict) → (reported_page r a ≡ page_of (Ok (told v))) ↔ SaysOf r a v
 
 -- so it is where each listed quorum of a names an acceptor,
 abbrev pub ReportSays : Type 0

@@ -1,8 +1,7 @@
 -- What row 17 says of a round handed in: its own number, and places in one byte. proofs/OwnNumber and proofs/OneByte prove each under the same name.
-use Rattle.std.specs.Prelude.{◌≡◌, ◌≢◌, ◌⊎◌, not, List, ℕ, ◌<◌, ◌≤◌, T, get_or, set}
+use Rattle.std.specs.Prelude.{◌≡◌, ◌≢◌, ◌⊎◌, not, List, ℕ, ◌<◌, ◌≤◌, T, get_or, set, Ok}
 use Rattle.std.proofs.Math.Option.{none}
-use Rattle.graph.specs.Answers.{answer_number}
-use Rattle.graphfile.specs.File.{answer_of}
+use Rattle.graph.specs.declared.Graph.{Graph}
 use Rattle.graphfile.specs.Arrays.{reading_of}
 use Rattle.protocol.specs.Ids.{Id}
 use Rattle.round.specs.Round.{Round}
@@ -21,7 +20,7 @@ Is17 r = ((H : List ℕ → Id) (b buffer : List ℕ) → delivery_number H r b 
 -- stands for none, so a larger number is like any other that the graph lacks.
 abbrev pub ForeignOwnRefused : Type 0
 ForeignOwnRefused =
-    ((file : List ℕ) (house bay own : ℕ) → answer_number (answer_of file) ≡ 0 → (reading_of file).graph.acceptors ≤ own → own ≢ listening
+    ((file : List ℕ) (house bay own : ℕ) (g : Graph) → reading_of file ≡ Ok g → g.acceptors ≤ own → own ≢ listening
     → opening_number (opened file house bay own).answer ≡ 17)
     × ((r : Round) → r.graph.acceptors ≤ r.own → r.own ≢ listening → Is17 r)
 

@@ -1,14 +1,14 @@
 -- "It must shut out: a round that turns every message down; a report that is always undecided; a delivery that stores nothing; an acceptor
 -- that votes on its first message and is mute later; an invented reply length; a 16 with fewer held than row 16 names." What shuts out each
 -- of the six, as propositions; proofs/ proves each under the same name.
-use Rattle.std.specs.Prelude.{◌≡◌, ◌⊎◌, ◌↔◌, not, List, [], ◌∷◌, ◌++◌, ℕ, ◌+◌, ◌<◌, ◌≤◌, T, length, get_or, take}
+use Rattle.std.specs.Prelude.{◌≡◌, ◌⊎◌, ◌↔◌, not, List, [], ◌∷◌, ◌++◌, ℕ, ◌+◌, ◌<◌, ◌≤◌, T, length, get_or, take, Ok}
 use Rattle.std.proofs.Math.Option.{none, some}
 use Rattle.base.specs.Bytes.{be}
 use Rattle.message.specs.Layout.{outer_len, acceptor_len}
 use Rattle.message.specs.Reader.{reading}
 use Rattle.message.specs.declared.Proposal.{Proposal}
 use Rattle.message.specs.declared.AcceptorMessage.{AcceptorMessage}
-use Rattle.message.specs.declared.Reading.TheVariants.{OfProposer, OfAcceptor}
+use Rattle.message.specs.declared.Message.TheVariants.{OfProposer, OfAcceptor}
 use Rattle.protocol.specs.Ids.{Id}
 use Rattle.protocol.specs.Message.{Message}
 use Rattle.protocol.specs.WellFormed.{formed1b, formed2a, well_formed}
@@ -19,7 +19,7 @@ use Rattle.round.specs.Limits.{acceptor_room, reply_len}
 use Rattle.round.specs.Holdings.{graph_of, is_voting, named, is_proposal_at, table_of, is_known, known_messages, place_of}
 use Rattle.round.specs.Handed.{fits}
 use Rattle.round.specs.Rows.{reference_ids, previous_id, placed, is_known_id, is_awaited, lacks, unchained, vote_record, message_of, room}
-use Rattle.round.specs.Delivery.{record_read, message_read, knowing, Result, delivery, delivered, replied}
+use Rattle.round.specs.Delivery.{record_read, message_read, knowing, Effect, delivery, delivered, replied}
 use Rattle.round.specs.Answers.{with_reply, outcome_number, has_reply, is_taken, undecided_state, delivery_number, reported_number, reported_page}
 use Rattle.round.specs.Premises.{IdRule, Typed}
 use Rattle.round.specs.Demands.{RecentId, ReplySays}
@@ -35,13 +35,13 @@ Handed r buffer = T (fits r) × (reply_len ≤ length buffer)
 -- ---- "a round that turns every message down"
 -- a proposal for the round's house and bay that is not known is accepted while there is room
 abbrev pub ProposalAccepted : Type 0
-ProposalAccepted = (H : List ℕ → Id) (r : Round) (b buffer : List ℕ) (f : Proposal) → Handed r buffer → reading b ≡ OfProposer f
+ProposalAccepted = (H : List ℕ → Id) (r : Round) (b buffer : List ℕ) (f : Proposal) → Handed r buffer → reading b ≡ Ok (OfProposer f)
     → f.house ≡ r.house → f.bay ≡ r.bay → T (not (is_known_id r (H b))) → r.held < room r (H b)
     → NotRefused H r b buffer
 
 -- so is an acceptor message to which none of the rows applies
 abbrev pub VoteAccepted : Type 0
-VoteAccepted = (H : List ℕ → Id) (r : Round) (b buffer : List ℕ) (f : AcceptorMessage) (m : Message) → Handed r buffer → reading b ≡ OfAcceptor f
+VoteAccepted = (H : List ℕ → Id) (r : Round) (b buffer : List ℕ) (f : AcceptorMessage) (m : Message) → Handed r buffer → reading b ≡ Ok (OfAcceptor f)
     → f.house ≡ r.house → f.bay ≡ r.bay → f.signer < r.graph.acceptors → T (not (is_known_id r (H b)))
     → T (not (lacks r (reference_ids b f))) → T (not (unchained r f.signer (reference_ids b f) (previous_id b f)))
     → m ≡ message_of r (vote_record r (H b) f.signer (previous_id b f) (reference_ids b f))
@@ -74,7 +74,7 @@ AcceptedIsHeld = (H : List ℕ → Id) → IdRule H → (r : Round) → Typed r 
 -- ---- "an acceptor that votes on its first message and is mute later"
 -- whatever it sent before, it answers each new proposal whose ballot is above those of the proposals it holds
 abbrev pub NewBallotAnswered : Type 0
-NewBallotAnswered = (H : List ℕ → Id) → IdRule H → (r : Round) → Typed r → T (is_voting r) → (b buffer : List ℕ) (f : Proposal) → Handed r buffer → reading b ≡ OfProposer f
+NewBallotAnswered = (H : List ℕ → Id) → IdRule H → (r : Round) → Typed r → T (is_voting r) → (b buffer : List ℕ) (f : Proposal) → Handed r buffer → reading b ≡ Ok (OfProposer f)
     → f.house ≡ r.house → f.bay ≡ r.bay → place_of r (H b) ≡ none → r.held < acceptor_room
     → ((q : ℕ) → q < r.held → T (is_proposal_at r q) → get_or r.ballots q 0 < f.ballot)
     → T (has_reply (delivery_number H r b buffer))
@@ -83,7 +83,7 @@ NewBallotAnswered = (H : List ℕ → Id) → IdRule H → (r : Round) → Typed
 -- it is written to the reply buffer, held as awaiting return, becomes last sent, and recent becomes {z}. Otherwise m joins recent unless it is a
 -- proposal."
 -- Of an accepted message m, r is the round before it, s the round once it is known, and d what its delivery gives. Where z is sent,
-pub record SentOff (H : List ℕ → Id) (s : Round) (z : List ℕ) (d : Result) : Type 0 where
+pub record SentOff (H : List ℕ → Id) (s : Round) (z : List ℕ) (d : Effect) : Type 0 where
   -- "it is written to the reply buffer,
   pub answers : outcome_number d.outcome ≡ with_reply + length z
   pub writes : d.reply ≡ z
@@ -96,7 +96,7 @@ pub record SentOff (H : List ℕ → Id) (s : Round) (z : List ℕ) (d : Result)
   pub recent : (i : Id) → RecentId d.round i ↔ (i ≡ H z)
 
 -- where nothing is (m has the id i),
-pub record SentNothing (r s : Round) (i : Id) (d : Result) : Type 0 where
+pub record SentNothing (r s : Round) (i : Id) (d : Effect) : Type 0 where
   pub answers : outcome_number d.outcome ≡ 0
   -- the messages and last sent stay
   pub holds : table_of d.round ≡ table_of s
@@ -105,7 +105,7 @@ pub record SentNothing (r s : Round) (i : Id) (d : Result) : Type 0 where
   pub recent : (j : Id) → RecentId d.round j ↔ (RecentId r j ⊎ ((j ≡ i) × T (placed (λ p. not (is_proposal_at s p)) (place_of s i))))
 
 -- and which of the two it is (the bytes b say m)
-pub record Responds (H : List ℕ → Id) (r s : Round) (b : List ℕ) (d : Result) : Type 0 where
+pub record Responds (H : List ℕ → Id) (r s : Round) (b : List ℕ) (d : Effect) : Type 0 where
   -- z, by its bytes, is the own acceptor's message for the round's house and bay, with last sent as previous and the references recent ∪ {m};
   pub z : List ℕ
   pub forms : ReplySays r (H b) z
@@ -125,7 +125,7 @@ SentExactlyWhenFormed = (H : List ℕ → Id) → IdRule H → (r : Round) → T
 abbrev pub ReplyLength : Type 0
 ReplyLength = (H : List ℕ → Id) → IdRule H → (r : Round) → Typed r → (b buffer : List ℕ) (n : ℕ) → delivery_number H r b buffer ≡ with_reply + n
     → (n ≤ reply_len) × (outer_len + be 2 (take n (replied H r b buffer)) 0 ≡ n)
-    × ((f : AcceptorMessage) × (reading (take n (replied H r b buffer)) ≡ OfAcceptor f) × (n ≡ acceptor_len f.previous f.count))
+    × ((f : AcceptorMessage) × (reading (take n (replied H r b buffer)) ≡ Ok (OfAcceptor f)) × (n ≡ acceptor_len f.previous f.count))
 
 -- ---- "a 16 with fewer held than row 16 names"
 -- "full: 128 held; for an acceptor 127, or 128 for its own message returning"

@@ -14,7 +14,7 @@ use Rattle.round.specs.Round.{Round}
 use Rattle.round.specs.Limits.{reply_len}
 use Rattle.round.specs.Holdings.{graph_of, table_of, is_recent}
 use Rattle.round.specs.Opening.{opened}
-use Rattle.round.specs.Delivery.{Result, delivery}
+use Rattle.round.specs.Delivery.{Effect, delivery}
 use Rattle.round.specs.Answers.{opening_number, with_reply, outcome_number, undecided_state, decided_state, reported_number, reported_page}
 
 -- ---- the graphs and messages of document 01
@@ -60,23 +60,23 @@ in_order x y = pick (before x y) (x ++ y) (y ++ x)
 unfoldable pub start : List ℕ → ℕ → Round
 start file own = (opened file 1 12 own).round
 
-unfoldable pub deliver : Round → List ℕ → Result
+unfoldable pub deliver : Round → List ℕ → Effect
 deliver r b = delivery H r b buffer
 
 -- ---- the sample round under G0: house 1, bay 12, acceptor 0
-unfoldable pub sample1 : Result
+unfoldable pub sample1 : Effect
 sample1 = deliver (start G0 0) P
 
 unfoldable pub z1 : List ℕ
 z1 = sample1.reply
 
-unfoldable pub sample2 : Result
+unfoldable pub sample2 : Effect
 sample2 = deliver sample1.round z1
 
 unfoldable pub z2 : List ℕ
 z2 = sample2.reply
 
-unfoldable pub sample3 : Result
+unfoldable pub sample3 : Effect
 sample3 = deliver sample2.round z2
 
 -- ---- other rows

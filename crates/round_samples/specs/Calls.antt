@@ -1,8 +1,7 @@
 -- The three calls as the samples make them, with their answers as numbers that a sample can name.
 use Rattle.std.specs.Prelude.{ℕ, zero, suc, ◌+◌, ◌%◌, ◌^◌, List, length, replicate, ◌==◌, nat_lt, slice_index}
 use Rattle.base.specs.Tests.{pick}
-use Rattle.round.specs.declared.Outcome.{Outcome}
-use Rattle.round.specs.declared.Report.{Report}
+use Rattle.round.specs.Outcomes.{Outcome, Reporting}
 use Rattle.round.specs.Answers.{outcome_number, report_number, page_of}
 use Rattle.round_samples.specs.declared.calls.Verdict.{Verdict}
 
@@ -22,7 +21,7 @@ abbrev pub outcome_in64 : Outcome → ℕ
 outcome_in64 o = outcome_number o % 2 ^ 64
 
 -- a report's number and its page
-abbrev pub verdict_of : Report → Verdict
+abbrev pub verdict_of : Reporting → Verdict
 verdict_of x = record { number = report_number x; state = (page_of x).state; least = (page_of x).least; other = (page_of x).other }
 
 -- byte i of a reply buffer after a reply: the reply's own, and behind it what was there

@@ -7,9 +7,9 @@ ghost use Rattle.roundbytes.specs.Layout.{round_len};
 ghost use Rattle.engine.specs.Calls.{open_answer, open_to, deliver_answer, deliver_to, reply_to, report_answer};
 ghost use Rattle.round_samples.specs.Calls.{blanks, zeros, outcome_in64, verdict_of, left_by, differing_in};
 
-use base::refusal::number;
+use base::refusal::Refusal;
 use engine::{deliver, open, report};
-use round::{Opening, Outcome, Report};
+use round::Report;
 use roundbytes::ROUND_LEN;
 
 // What every byte of a reply buffer is before a delivery.
@@ -60,13 +60,15 @@ fn fresh() -> [u8; ROUND_LEN]
 }
 
 // The number of a delivery's answer.
-fn outcome_number(outcome: Outcome) -> u64
+fn outcome_number(outcome: Result<Option<usize>, Refusal>) -> u64
     ensures { result ≡ outcome_in64 outcome }
 {
     match outcome {
-        Outcome::Accepted => 0,
-        Outcome::Replied(n) => std::num::wrapping_add_u64(256, n as u64),
-        Outcome::Refused(r) => number(r) as u64,
+        Ok(reply) => match reply {
+            None => 0,
+            Some(n) => 256u64.wrapping_add(n as u64),
+        },
+        Err(r) => u64::from(u32::from(r)),
     }
 }
 
@@ -122,12 +124,10 @@ pub fn differing(buffer: &[u8], reply: &[u8]) -> u64
     ensures { result ≡ differing_in (length buffer.now) buffer.now reply.now }
 {
     let mut n: u64 = 0;
-    let mut i: usize = 0;
-    while i < buffer.len() {
+    for i in 0..buffer.len() {
         if buffer[i] != left_by(reply, i) {
             n += 1;
         }
-        i += 1;
     }
     n
 }
@@ -147,8 +147,8 @@ pub fn opening(file: &[u8], own: u32) -> u64
 {
     let mut bytes = fresh();
     match open(file, 1, 12, own, &mut bytes) {
-        Opening::Opened => 0,
-        Opening::Refused(r) => number(r) as u64,
+        Ok(()) => 0,
+        Err(r) => u64::from(u32::from(r)),
     }
 }
 
@@ -158,26 +158,26 @@ pub fn told(round: Round, learner: u8) -> Verdict
 {
     let bytes = round.bytes;
     match report(&bytes, learner) {
-        Report::Undecided => Verdict {
+        Ok(Report::Undecided) => Verdict {
             number: 0,
             state: 0,
             least: 0,
             other: 0,
         },
-        Report::Decided(ballot) => Verdict {
+        Ok(Report::Decided(ballot)) => Verdict {
             number: 0,
             state: 1,
             least: ballot,
             other: 0,
         },
-        Report::Split(ballot, other) => Verdict {
+        Ok(Report::Split(ballot, other)) => Verdict {
             number: 0,
             state: 2,
             least: ballot,
-            other: other,
+            other,
         },
-        Report::Refused(r) => Verdict {
-            number: number(r) as u64,
+        Err(r) => Verdict {
+            number: u64::from(u32::from(r)),
             state: 0,
             least: 0,
             other: 0,

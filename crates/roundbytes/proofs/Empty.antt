@@ -1,12 +1,13 @@
 -- The bytes of a round that holds no message: the graph's, those of the numbers, and zeros.
 use mathlib.Core.Path.{◌≡◌, refl, sym, ap, ap₂, ◌∙◌}
 use mathlib.Core.List.{List, ◌++◌, append_assoc}
-use Prim.Native.Nat.{ℕ, zero, suc, ◌+◌, ◌-◌, ◌*◌}
+use Prim.Native.Nat.{ℕ, zero, suc, ◌+◌, ◌-◌, ◌*◌, ◌≤◌}
 use native.Mathlib.Nat.{zero-add}
 use native.Mathlib.Omega.{arith}
-use lib.ListN.{length, drop, replicate, replicate-append-replicate}
-use Rattle.base.specs.Bytes.{bytes, put_at}
-use Rattle.base.proofs.Bytes.{put_at_more}
+use lib.ListN.{length, take, drop, replicate, length-replicate, replicate-append-replicate}
+use lib.Seq.{drop-drop}
+use Rattle.base.specs.Bytes.{bytes, part, put_at}
+use Rattle.base.proofs.Bytes.{part_length, put_at_more}
 use Rattle.graph.specs.declared.Graph.{Graph}
 use Rattle.graph.specs.Limits.{lists, max_masks}
 use Rattle.message.specs.Writer.{fronted}
@@ -48,6 +49,14 @@ columns p w a b c d e f g h k z =
 empty_bytes : (g : Graph) (house bay own last : ℕ)
     → round_bytes (empty_round g house bay own last) ≡ graph_bytes g ++ number_bytes house bay own 0 last ++ replicate (round_len - ids_at) 0
 empty_bytes g house bay own last = columns (graph_bytes g ++ number_bytes house bay own 0 last) (words 8 (replicate max_held 0)) (id_len * max_held) max_held max_held 1024 max_held max_held (max_held * max_held) max_held max_held (words_zeros max_held)
+
+-- a part filled with zeros
+pub zeros_put : (b z : List ℕ) (at n : ℕ) → at + n ≤ length b → z ≡ replicate (length (part n b at)) 0 → take at b ++ (z ++ drop n (drop at b)) ≡ put_at b at (replicate n 0)
+zeros_put b z at n h e =
+    ap (λ (x : List ℕ). take at b ++ (x ++ drop n (drop at b))) (e ∙ ap (λ (k : ℕ). replicate k 0) (part_length n b at h))
+    ∙ sym (append_assoc (take at b) (replicate n 0) (drop n (drop at b)))
+    ∙ ap (λ (x : List ℕ). take at b ++ replicate n 0 ++ x) (drop-drop n at b)
+    ∙ ap (λ (k : ℕ). take at b ++ replicate n 0 ++ drop (at + k) b) (sym (length-replicate n 0))
 
 -- the three parts that the writer puts in, one behind the other, are the round
 pub empty_written : (g : Graph) (house bay own last : ℕ) (b m₁ m₂ m₃ : List ℕ) → length g.counts ≡ lists → length g.masks ≡ max_masks * lists

@@ -13,7 +13,7 @@ ghost use Rattle.base.specs.Bytes.{put_at};
 ghost use Rattle.message.specs.Writer.{fronted};
 ghost use Rattle.round.specs.Limits.{no_place};
 ghost use Rattle.round.specs.Opening.{empty_round};
-ghost use Rattle.roundbytes.specs.Layout.{house_at, round_len, words, numbers, graph_bytes, number_bytes, round_bytes, masks_at};
+ghost use Rattle.roundbytes.specs.Layout.{house_at, round_len, words, numbers, graph_bytes, number_bytes, round_bytes, round_in, masks_at};
 ghost use Rattle.graph.specs.Limits.{max_masks, lists};
 
 // Where each field stands, the same sums as in specs/Layout. The two bytes in front are the graph's acceptors and learners.
@@ -56,33 +56,42 @@ pub const RECENT_AT: usize = KNOWN_AT + MAX_HELD;
 // How many bytes a round takes.
 pub const ROUND_LEN: usize = RECENT_AT + MAX_HELD;
 
-// ---- arrays read
-pub fn masks_in(s: &[u8]) -> [u32; MASK_SLOTS]
+// ---- the graph read
+fn masks_in(s: &[u8]) -> [u32; MASK_SLOTS]
     requires { house_at ≤ length s.now }
     ensures { result ≡ numbers 4 (max_masks * lists) s.now masks_at }
 {
     let mut out = [0u32; MASK_SLOTS];
-    let mut i: usize = 0;
-    while i < MASK_SLOTS {
-        out[i] = read32(s, MASKS_AT + 4 * i);
-        i += 1;
+    for (i, mask) in out.iter_mut().enumerate() {
+        *mask = read32(s, MASKS_AT + 4 * i);
     }
     out
 }
 
-// ---- arrays put in
+pub fn graph_in(s: &[u8]) -> Graph
+    requires { round_len ≤ length s.now }
+    ensures { result ≡ (round_in s.now).graph }
+{
+    let mut counts = [0u8; LISTS];
+    counts.copy_from_slice(&s[LIST_COUNTS_AT..MASKS_AT]);
+    Graph {
+        acceptors: s[ACCEPTORS_AT],
+        learners: s[LEARNERS_AT],
+        counts,
+        masks: masks_in(s),
+    }
+}
+
+// ---- the graph put in, and the numbers behind it
 fn put_masks(buf: &mut [u8], masks: &[u32])
     requires { masks_at + 4 * length masks.now ≤ length buf.old }
     ensures { buf.new ≡ put_at buf.old masks_at (words 4 masks.now) }
 {
-    let mut i: usize = 0;
-    while i < masks.len() {
-        put32(buf, MASKS_AT + 4 * i, masks[i]);
-        i += 1;
+    for (i, mask) in masks.iter().enumerate() {
+        put32(buf, MASKS_AT + 4 * i, *mask);
     }
 }
 
-// ---- the graph, and the numbers behind it
 fn put_graph(graph: Graph, buf: &mut [u8])
     requires { round_len ≤ length buf.old }
     ensures { buf.new ≡ put_at buf.old 0 (graph_bytes graph) }
@@ -97,23 +106,11 @@ fn put_numbers(buf: &mut [u8], house: u16, bay: u16, own: u16, held: u8, last: u
     requires { round_len ≤ length buf.old }
     ensures { buf.new ≡ put_at buf.old house_at (number_bytes house bay own held last) }
 {
-    put16(buf, HOUSE_AT, house as usize);
-    put16(buf, BAY_AT, bay as usize);
-    put16(buf, OWN_AT, own as usize);
+    put16(buf, HOUSE_AT, usize::from(house));
+    put16(buf, BAY_AT, usize::from(bay));
+    put16(buf, OWN_AT, usize::from(own));
     put8(buf, HELD_AT, held);
     put8(buf, LAST_AT, last);
-}
-
-// Zeros from `at` on, up to `end`.
-fn put_zeros(buf: &mut [u8], at: usize, end: usize)
-    requires { (at ≤ end) × (end ≤ length buf.old) }
-    ensures { buf.new ≡ put_at buf.old at (replicate (end - at) 0) }
-{
-    let mut i = at;
-    while i < end {
-        buf[i] = 0;
-        i += 1;
-    }
 }
 
 // ---- the round
@@ -124,5 +121,5 @@ pub fn put_empty(graph: Graph, house: u16, bay: u16, own: u16, s: &mut [u8])
 {
     put_graph(graph, s);
     put_numbers(s, house, bay, own, 0, NO_PLACE);
-    put_zeros(s, IDS_AT, ROUND_LEN);
+    s[IDS_AT..ROUND_LEN].fill(0);
 }

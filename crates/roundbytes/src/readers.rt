@@ -7,7 +7,7 @@ use crate::{
     ACCEPTORS_AT, BALLOTS_AT, BAY_AT, COUNTS_AT, HELD_AT, HOUSE_AT, KINDS_AT, KNOWN_AT, LAST_AT,
     LEARNERS_AT, OWN_AT, PREVIOUS_AT, RECENT_AT, SIGNERS_AT,
 };
-use base::{read16, read64, size};
+use base::{read16, read64};
 
 // ---- the graph's counts
 pub fn acceptors_of(s: &[u8]) -> u8
@@ -21,7 +21,7 @@ pub fn learners_of(s: &[u8]) -> usize
     requires { round_len ≤ length s.now }
     ensures { (result ≡ (round_in s.now).graph.learners) × (result < 256) }
 {
-    size(s[LEARNERS_AT])
+    usize::from(s[LEARNERS_AT])
 }
 
 // ---- whose round it is
@@ -53,7 +53,7 @@ pub fn held_of(s: &[u8]) -> usize
     requires { round_len ≤ length s.now }
     ensures { (result ≡ (round_in s.now).held) × (result < 256) }
 {
-    size(s[HELD_AT])
+    usize::from(s[HELD_AT])
 }
 
 // The place of the last sent message, or NO_PLACE.

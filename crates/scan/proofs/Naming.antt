@@ -87,13 +87,3 @@ all_more r i k x x' x'' y y' y'' l size old new =
       words = new.rest ∙ ap (λ (z : WordNotes). with_ids z x''.idlow x''.idhigh) old.words;
       octets = new.named ∙ ap (λ (z : ByteNotes). with_names z (set y'.names i k)) old.octets ∙ ap (with_names y) (ap (λ (z : ByteNotes). z.names) (sym new.named));
     }
-
--- what is true since a name was put among the notes y is true since y, too: names are all that becomes another
-pub all_since : (r : Round) (n i k : ℕ) (x x' : WordNotes) (y y' y'' : ByteNotes) → y' ≡ with_name y i k → NamedAll r n x x' y' y'' → NamedAll r n x x' y y''
-all_since r n i k x x' y y' y'' e all =
-    record {
-      named = all.named;
-      indexed = all.indexed;
-      words = all.words;
-      octets = all.octets ∙ ap (λ (z : ByteNotes). with_names z y''.names) e;
-    }

@@ -11,76 +11,65 @@ ghost use Rattle.scan.specs.Inside.Arrays.{is_fork, is_caught};
 ghost use Rattle.round.specs.Limits.{max_held};
 ghost use Rattle.graph.specs.Limits.{mask_bits};
 
-use base::size;
 use message::layout::PROPOSAL;
-use notes::readers::{forks_at, name_at};
+use notes::Notes;
 use places::Places;
-use places::sets::{first_in, has_place, meet, with_acceptor, with_place, without_first};
+use places::sets::with_acceptor;
 use roundbytes::readers::{kind_at, previous_at, signer_at};
 
 // Whether the message at place j forks with one of this signer, name and link.
-fn is_fork<'a>(s: &'a [u8], octets: &'a [u8], signer: u8, name: u8, link: u8, j: usize) -> bool
-    requires { (round_len ≤ length s.now) × ((length octets.now ≡ octets_len) × (j < max_held)) }
-    ensures { result ≡ is_fork (round_in s.now) (byte_notes octets.now) signer name link j }
+fn is_fork(s: &[u8], notes: &Notes, signer: u8, name: u8, link: u8, j: usize) -> bool
+    requires { (round_len ≤ length s.now) × (j < max_held) }
+    ensures { result ≡ is_fork (round_in s.now) (byte_notes notes.now.octets) signer name link j }
 {
-    let at = size(previous_at(s, j));
+    let at = usize::from(previous_at(s, j));
     (kind_at(s, j) != PROPOSAL)
         & (signer_at(s, j) == signer)
-        & (name_at(octets, j) != name)
-        & (name_at(octets, at) == link)
+        & (notes.name_at(j) != name)
+        & (notes.name_at(at) == link)
 }
 
 // Those of the first n places that fork with it; the walk has each of them.
-pub fn forking<'a>(
-    s: &'a [u8],
-    octets: &'a [u8],
+pub fn forking(
+    s: &[u8],
+    notes: &Notes,
     n: usize,
     signer: u8,
     name: u8,
     link: u8,
     walk: Places,
 ) -> Places
-    requires { (round_len ≤ length s.now) × ((length octets.now ≡ octets_len)
-        × Covering n (is_fork (round_in s.now) (byte_notes octets.now) signer name link) walk) }
+    requires { (round_len ≤ length s.now) × Covering n (is_fork (round_in s.now) (byte_notes notes.now.octets) signer name link) walk }
     ensures { (q : ℕ) → q < max_held → in_set result.low result.high q
-        ≡ any (λ j. is_fork (round_in s.now) (byte_notes octets.now) signer name link j && eqb j q) (below n) }
+        ≡ any (λ j. is_fork (round_in s.now) (byte_notes notes.now.octets) signer name link j && eqb j q) (below n) }
 {
     let mut found = Places { low: 0, high: 0 };
-    let mut rest = walk;
-    let mut j: usize = first_in(rest.low, rest.high, n);
-    while j < n {
-        let on = is_fork(s, octets, signer, name, link, j);
-        found = with_place(found.low, found.high, j, on);
-        rest = without_first(rest.low, rest.high);
-        j = first_in(rest.low, rest.high, n);
+    for j in walk.below(n) {
+        let on = is_fork(s, notes, signer, name, link, j);
+        found = found.with(j, on);
     }
     found
 }
 
 // Whether place j is in the set and forks with another one there.
-fn is_caught(words: &[u64], set: Places, j: usize) -> bool
-    requires { (length words.now ≡ words_len) × (j < max_held) }
-    ensures { result ≡ is_caught (word_notes words.now) set.low set.high j }
+fn is_caught(notes: &Notes, set: Places, j: usize) -> bool
+    requires { j < max_held }
+    ensures { result ≡ is_caught (word_notes notes.now.words) set.low set.high j }
 {
-    let forks = forks_at(words, j);
-    has_place(set.low, set.high, j) & meet(set.low, set.high, forks.low, forks.high)
+    let forks = notes.forks_at(j);
+    set.has(j) & set.meets(forks)
 }
 
 // The signers of such places among the first n; the walk has each of them.
-pub fn caught_in<'a>(s: &'a [u8], words: &'a [u64], n: usize, set: Places, walk: Places) -> u32
-    requires { (round_len ≤ length s.now) × ((length words.now ≡ words_len)
-        × Covering n (is_caught (word_notes words.now) set.low set.high) walk) }
+pub fn caught_in(s: &[u8], notes: &Notes, n: usize, set: Places, walk: Places) -> u32
+    requires { (round_len ≤ length s.now) × Covering n (is_caught (word_notes notes.now.words) set.low set.high) walk }
     ensures { (p : ℕ) → p < mask_bits → has result p
-        ≡ any (λ j. is_caught (word_notes words.now) set.low set.high j && eqb (signer_at (round_in s.now) j) p) (below n) }
+        ≡ any (λ j. is_caught (word_notes notes.now.words) set.low set.high j && eqb (signer_at (round_in s.now) j) p) (below n) }
 {
     let mut mask: u32 = 0;
-    let mut rest = walk;
-    let mut j: usize = first_in(rest.low, rest.high, n);
-    while j < n {
-        let on = is_caught(words, set, j);
+    for j in walk.below(n) {
+        let on = is_caught(notes, set, j);
         mask = with_acceptor(mask, signer_at(s, j), on);
-        rest = without_first(rest.low, rest.high);
-        j = first_in(rest.low, rest.high, n);
     }
     mask
 }

@@ -2,6 +2,8 @@
 // whether a vote is repeated, and which place an id names. The round's bytes and its notes are lent whole.
 #![tactic(auto)]
 
+use places::Places;
+
 pub mod beneath;
 pub mod forks;
 pub mod names;
@@ -10,8 +12,7 @@ pub mod repeats;
 // What lies beneath a message: a set of places, its ballot, and whether it refers to a proposal.
 #[derive(Clone, Copy)]
 pub struct Under {
-    pub low: u64,
-    pub high: u64,
+    pub set: Places,
     pub ballot: u64,
     pub offered: bool,
 }

@@ -3,17 +3,12 @@
 // Ids are found by a key, so that few places are compared.
 ghost use Rattle.std.specs.Prelude.{◌≡◌, ◌≤◌, ◌<◌, length};
 ghost use Rattle.roundbytes.specs.Layout.{round_len, round_in};
-ghost use Rattle.notes.specs.Inside.Layout.{words_len, word_notes, byte_notes};
-ghost use Rattle.notes.specs.Inside.Asking.{Asked};
+ghost use Rattle.notes.specs.Inside.Layout.{word_notes, byte_notes};
 ghost use Rattle.scan.specs.Inside.Arrays.{Lowest, id_key, IdsIndexed, IdsFiled, NamedMore, NamedAll};
 ghost use Rattle.round.specs.Limits.{max_held};
 
-use base::size;
 use message::layout::ID_LEN;
-use notes::ID_KEYS;
-use notes::readers::id_set;
-use notes::writers::{file_id, put_name};
-use places::sets::{first_in, without_first};
+use notes::{ID_KEYS, Notes};
 use round::NO_PLACE;
 use roundbytes::IDS_AT;
 
@@ -24,48 +19,42 @@ fn id_key(bytes: &[u8], at: usize) -> usize
     if bytes.len() <= at {
         return 0;
     }
-    size(bytes[at]) % ID_KEYS
+    usize::from(bytes[at]) % ID_KEYS
 }
 
 // The lowest of the first n places with this id, or n.
-pub fn name_of<'a>(s: &'a [u8], words: &'a [u64], n: usize, id: &'a [u8]) -> usize
-    requires { (round_len ≤ length s.now) × ((length words.now ≡ words_len) × IdsFiled (round_in s.now) n (word_notes words.now)) }
+pub fn name_of(s: &[u8], notes: &Notes, n: usize, id: &[u8]) -> usize
+    requires { (round_len ≤ length s.now) × (IdsFiled (round_in s.now) n (word_notes notes.now.words)) }
     ensures { Lowest (round_in s.now) n id.now result }
 {
-    let mut rest = id_set(words, id_key(id, 0));
-    let mut i = first_in(rest.low, rest.high, n);
-    while i < n {
+    for i in notes.id_set(id_key(id, 0)).below(n) {
         let at = IDS_AT + ID_LEN * i;
         if check::same(&s[at..at + ID_LEN], id) {
             return i;
         }
-        rest = without_first(rest.low, rest.high);
-        i = first_in(rest.low, rest.high, n);
     }
     n
 }
 
 // The name of place i is put among the names, and the place into the index of the ids: the lowest of the places up to it with its id.
-pub fn name_place(s: &[u8], words: &mut [u64], octets: &mut [u8], i: usize) -> usize
-    requires { Asked s.now words.old octets.old × ((i < max_held) × IdsIndexed (round_in s.now) i (word_notes words.old)) }
-    ensures { NamedMore (round_in s.now) i result (word_notes words.old) (word_notes words.new) (byte_notes octets.old) (byte_notes octets.new) }
+pub fn name_place(s: &[u8], notes: &mut Notes, i: usize) -> usize
+    requires { (round_len ≤ length s.now) × ((i < max_held) × IdsIndexed (round_in s.now) i (word_notes notes.old.words)) }
+    ensures { NamedMore (round_in s.now) i result (word_notes notes.old.words) (word_notes notes.new.words) (byte_notes notes.old.octets) (byte_notes notes.new.octets) }
 {
     let at = IDS_AT + ID_LEN * i;
-    let name = name_of(s, words, i, &s[at..at + ID_LEN]);
-    put_name(octets, i, name as u8);
-    file_id(words, id_key(s, at), i);
+    let name = name_of(s, notes, i, &s[at..at + ID_LEN]);
+    notes.put_name(i, name as u8);
+    notes.file_id(id_key(s, at), i);
     name
 }
 
 // The names of the first n places, and their ids by key.
-pub fn name_places(s: &[u8], words: &mut [u64], octets: &mut [u8], n: usize)
-    requires { Asked s.now words.old octets.old × (n ≤ max_held) }
-    ensures { NamedAll (round_in s.now) n (word_notes words.old) (word_notes words.new) (byte_notes octets.old) (byte_notes octets.new) }
+pub fn name_places(s: &[u8], notes: &mut Notes, n: usize)
+    requires { (round_len ≤ length s.now) × (n ≤ max_held) }
+    ensures { NamedAll (round_in s.now) n (word_notes notes.old.words) (word_notes notes.new.words) (byte_notes notes.old.octets) (byte_notes notes.new.octets) }
 {
-    put_name(octets, size(NO_PLACE), NO_PLACE);
-    let mut i: usize = 0;
-    while i < n {
-        let _name = name_place(s, words, octets, i);
-        i += 1;
+    notes.put_name(usize::from(NO_PLACE), NO_PLACE);
+    for i in 0..n {
+        let _name = name_place(s, notes, i);
     }
 }

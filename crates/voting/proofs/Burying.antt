@@ -3,6 +3,7 @@ use mathlib.Core.Path.{◌≡◌, refl, sym, ap, subst, ◌∙◌}
 use mathlib.Core.Logic.{◌⊎◌, inl, inr}
 use mathlib.Core.Bool.{Bool, true, false, not, ◌&&◌, ◌||◌}
 use Prim.Native.Nat.{ℕ, zero, suc, ◌≤◌, ◌<◌}
+use native.Mathlib.Numerals.{add-one}
 use native.Mathlib.Decide.{dec_lt, ℕ_discrete}
 use native.Mathlib.Omega.{arith}
 use borrow.Author.Tests.{le-ltb, ltb-true, ltb-false, eqb-true, eqb-false}
@@ -16,7 +17,8 @@ use Rattle.places.specs.Inside.PlaceSets.{Covers}
 use Rattle.round.specs.Round.{Round}
 use Rattle.notes.specs.Inside.Layout.{WordNotes, ByteNotes}
 use Rattle.voting.specs.Inside.Votes.{vote_ballot, raised, peaks_of, is_buried, is_opposed, is_rival, is_barred}
-use Rattle.places.proofs.Walks.{Passed}
+use Rattle.places.specs.declared.Places.{Places}
+use Rattle.places.proofs.Going.{Skips}
 use Rattle.places.proofs.Loops.{any_none, not_covered}
 
 -- what the peaks of f 0, .., f (n - 1) are
@@ -109,21 +111,16 @@ raised_none : (p : Peaks) → raised p 0 ≡ p
 unfolding raised
 raised_none p = simp (le-ltb p.best 0 (omega arith), le-ltb p.other 0 (omega arith))
 
--- nor do the places from j to below r, where all are 0
-peaks_skip : (f : ℕ → ℕ) (j r : ℕ) → j ≤ r → ((q : ℕ) → j ≤ q → q < r → f q ≡ 0) → peaks_of f j ≡ peaks_of f r
+-- nor do the places that are no votes
+pub peaks_skips : (vote : ℕ → Bool) (top : ℕ → ℕ) (n : ℕ) (set : Places) → Covers n vote set.low set.high
+    → Skips (λ (p : Peaks) (q : ℕ). raised p (pick (vote q) (top q) 0)) (peaks_of (λ q. pick (vote q) (top q) 0)) n set.low set.high
 unfolding peaks_of
-peaks_skip f j zero l h = let e : j ≡ 0 = omega arith in ap (peaks_of f) e
-peaks_skip f j (suc r) l h = step (λ (m : j ≤ r). peaks_skip f j r m (λ q k g. h q k (omega arith))) (dec_lt r j)
-  where
-    step : (j ≤ r → peaks_of f j ≡ peaks_of f r) → Dec (r < j) → peaks_of f j ≡ peaks_of f (suc r)
-    step rest (yes a) = let e : j ≡ suc r = omega arith in ap (peaks_of f) e
-    step rest (no a) = rest (omega arith) ∙ sym (ap (raised (peaks_of f r)) (h r (omega arith) (omega arith)) ∙ raised_none (peaks_of f r))
-
--- nor does going on to the next of the places that cover the votes
-pub peaks_next : (vote : ℕ → Bool) (top : ℕ → ℕ) (n low high j r : ℕ) → Covers n vote low high
-    → Passed n low high j r → peaks_of (λ q. pick (vote q) (top q) 0) j ≡ peaks_of (λ q. pick (vote q) (top q) 0) r
-peaks_next vote top n low high j r cover (l, (u, none)) =
-    peaks_skip (λ q. pick (vote q) (top q) 0) j r l (λ q a b. ap (λ (t : Bool). pick t (top q) 0) (not_covered n vote low high q cover (omega arith) (none q a b)))
+peaks_skips vote top n set cover =
+    let f : ℕ → ℕ = λ q. pick (vote q) (top q) 0 in
+    record {
+      step = λ a l. ap (peaks_of f) (add-one a);
+      skip = λ a l e. ap (peaks_of f) (add-one a) ∙ ap (λ (t : Bool). raised (peaks_of f a) (pick t (top a) 0)) (not_covered n vote set.low set.high a cover l e) ∙ raised_none (peaks_of f a);
+    }
 
 -- Buried as a comparison
 pub buried_by_peaks : (f : ℕ → ℕ) (n x : ℕ)

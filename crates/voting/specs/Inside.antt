@@ -1,4 +1,4 @@
 -- The tests that the loops ask of each vote
 pub mod Votes
--- What is asked of the lent arrays
+-- What is asked of the round, its graph and its notes
 pub mod Asking

@@ -1,6 +1,6 @@
 -- What the look-ups ask of the bytes that a round stands in, and what they answer.
-use Rattle.std.specs.Prelude.{◌≡◌, List, map, ℕ, ◌+◌, ◌*◌, ◌≤◌, ◌<◌, length}
-use Rattle.std.proofs.Math.Option.{Option, none, some}
+use Rattle.std.specs.Prelude.{◌≡◌, List, map, ℕ, ◌+◌, ◌*◌, ◌≤◌, ◌<◌, length, Option, None, Some}
+use Rattle.std.proofs.Math.Option as maybe
 use Rattle.message.specs.Layout.{id_len, references_at}
 use Rattle.message.specs.declared.AcceptorMessage.{AcceptorMessage}
 use Rattle.protocol.specs.Ids.{Id}
@@ -9,8 +9,6 @@ use Rattle.round.specs.Limits.{max_held}
 use Rattle.round.specs.Holdings.{place_of}
 use Rattle.round.specs.Rows.{or_zero}
 use Rattle.roundbytes.specs.Layout.{round_len, round_in}
-use Rattle.admission.specs.declared.lookup.Found.{Found}
-use Rattle.admission.specs.declared.lookup.Found.TheVariants.{At, Nothing}
 
 -- ---- what is asked
 -- a round stands in the bytes s
@@ -28,13 +26,13 @@ pub record Listed (b : List ℕ) (m : AcceptorMessage) : Type 0 where
   pub within : references_at m.previous + id_len * m.count ≤ length b
 
 -- ---- what is answered: a place, or none
-abbrev pub place_found : Found → Option ℕ
-place_found Nothing = none
-place_found (At p) = some p
+abbrev pub place_found : Option ℕ → maybe.Option ℕ
+place_found None = maybe.none
+place_found (Some p) = maybe.some p
 
 -- a place that was found is that of a held message
-abbrev pub Inside : Round → Found → Type 0
-Inside r f = (p : ℕ) → f ≡ At p → p < r.held
+abbrev pub Inside : Round → Option ℕ → Type 0
+Inside r f = (p : ℕ) → f ≡ Some p → p < r.held
 
 -- the places of some ids
 abbrev pub places_of : Round → List Id → List ℕ

@@ -1,5 +1,5 @@
 -- What a round holds of an acceptor message: its signer, and places for its previous id and its references.
-use Rattle.std.specs.Prelude.{◌≡◌, List, ℕ, take}
+use Rattle.std.specs.Prelude.{◌≡◌, List, ℕ}
 use Rattle.std.proofs.Math.Option.{Option}
 use Rattle.protocol.specs.Ids.{Id}
 use Rattle.protocol.specs.Table.{Held, says}
@@ -9,13 +9,9 @@ use Rattle.round.specs.Delivery.{previous_place}
 use Rattle.admission.specs.declared.rows.Vote.{Vote}
 use Rattle.admission.specs.Inside.Finding.{places_of}
 
--- the places that it refers to
-abbrev pub refers_to : Vote → List ℕ
-refers_to v = take v.count v.places
-
 -- the record of the message, which has the id i
 abbrev pub record_of : Round → Id → Vote → Held
-record_of r i v = says i v.signer (named r v.previous) (refers_to v)
+record_of r i v = says i v.signer (named r v.previous) v.places.items
 
 -- v is what a message of this signer, with this previous id or none and with references to these ids, looks up in the round r
 pub record Resolves (r : Round) (signer : ℕ) (previous : Option Id) (ids : List Id) (v : Vote) : Type 0 where
@@ -24,4 +20,4 @@ pub record Resolves (r : Round) (signer : ℕ) (previous : Option Id) (ids : Lis
   -- the place that its previous id names,
   pub back : v.previous ≡ previous_place r previous
   -- and those that its references name
-  pub listed : refers_to v ≡ places_of r ids
+  pub listed : v.places.items ≡ places_of r ids

@@ -1,11 +1,13 @@
 -- The notes of the first n places of a round are right, and so are the indexes that they keep.
 use Rattle.std.specs.Prelude.{◌≡◌, ◌⊎◌, List, ℕ, suc, ◌<◌}
 use Rattle.base.specs.Tests.{◌∈◌}
+use Rattle.graph.specs.declared.Graph.{Graph}
 use Rattle.round.specs.Round.{Round}
 use Rattle.round.specs.Limits.{no_place}
 use Rattle.round.specs.Holdings.{graph_of}
 use Rattle.roundbytes.specs.Layout.{round_in}
-use Rattle.notes.specs.Inside.Layout.{WordNotes, ByteNotes, word_notes, byte_notes, Lent}
+use Rattle.notes.specs.declared.Notes.{Notes}
+use Rattle.notes.specs.Inside.Layout.{WordNotes, ByteNotes, word_notes, byte_notes}
 use Rattle.notes.specs.Inside.Index.{Marks}
 use Rattle.scan.specs.Inside.Arrays.{Named, IdsIndexed}
 use Rattle.meaning.specs.Inside.Records.{table_to, Fit}
@@ -35,34 +37,31 @@ pub record Extended (r : Round) (from p : ℕ) (x x' : WordNotes) (y y' : ByteNo
   -- and right notes stay right
   pub known : Named r r.held y → AllNoted (graph_of r) (table_to r from) r x y → AllNoted (graph_of r) (table_to r p) r x' y'
 
--- ---- the notes of the first n places of a round, in lent arrays
-pub record WorkedTo (r : Round) (n : ℕ) (words octets : List ℕ) : Type 0 where
-  -- the arrays have room for notes,
-  pub lent : Lent words octets
-  -- and hold those of the n places
-  pub complete : Complete r n (word_notes words) (byte_notes octets)
+-- ---- the notes of the first n places of a round
+abbrev pub WorkedTo : Round → ℕ → Notes → Type 0
+WorkedTo r n notes = Complete r n (word_notes notes.words) (byte_notes notes.octets)
 
 -- and those of all its messages
-abbrev pub WorkedOut : Round → List ℕ → List ℕ → Type 0
-WorkedOut r words octets = WorkedTo r r.held words octets
+abbrev pub WorkedOut : Round → Notes → Type 0
+WorkedOut r notes = WorkedTo r r.held notes
 
 -- ---- a round that holds one message more than the n whose notes are right; none of these names it as its previous message
-pub record OneMore (s masks words octets : List ℕ) (n : ℕ) : Type 0 where
-  -- the arrays are as the pass asks,
-  pub given : Given s masks words octets
+pub record OneMore (s : List ℕ) (graph : Graph) (notes : Notes) (n : ℕ) : Type 0 where
+  -- the round and its graph are as the pass asks,
+  pub given : Given s graph
   -- there is one message more,
   pub more : (round_in s).held ≡ suc n
   -- the others fit without it,
   pub before : Fit n (round_in s)
   -- and their notes are right
-  pub complete : Complete (round_in s) n (word_notes words) (byte_notes octets)
+  pub complete : WorkedTo (round_in s) n notes
 
 -- ---- what a new message is judged by: the notes of all held messages, and that it names places of these
-pub record Judging (s masks words octets : List ℕ) (previous : ℕ) (places : List ℕ) : Type 0 where
-  -- the arrays are as the pass asks,
-  pub given : Given s masks words octets
+pub record Judging (s : List ℕ) (graph : Graph) (notes : Notes) (previous : ℕ) (places : List ℕ) : Type 0 where
+  -- the round and its graph are as the pass asks,
+  pub given : Given s graph
   -- the notes of all held messages are right,
-  pub complete : Complete (round_in s) (round_in s).held (word_notes words) (byte_notes octets)
+  pub complete : WorkedOut (round_in s) notes
   -- it refers to these,
   pub earlier : (j : ℕ) → j ∈ places → j < (round_in s).held
   -- and its previous message is none or held

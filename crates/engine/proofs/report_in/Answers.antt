@@ -3,11 +3,11 @@ use native.Mathlib.Omega.{arith}
 use mathlib.Core.Bool.{true}
 use lib.Dec.{T}
 use Prim.Native.Nat.{ℕ}
+use Rattle.std.specs.Prelude.{Ok}
 use Rattle.round.proofs.OneByte.{unfit_reported}
 use Rattle.roundbytes.specs.Layout.{round_in}
 use Rattle.engine.proofs.Reporting.{refused_learner, reported_told}
 use Rattle.round.specs.Handed.{fits}
-use Rattle.roundbytes.proofs.Fields.{masks_in}
 use Rattle.round.specs.Report.{told}
 use Rattle.round.specs.Holdings.{graph_of, known_messages}
 use Rattle.protocol.specs.Report as paper
@@ -20,7 +20,7 @@ pub returns-then-learners_of-number : goal.returns-then-learners_of-number
 returns-then-learners_of-number c =
     let a = c.args in
     let r = round_in a.s.now in
-    let n = c.size-number.ensures.0 in
+    let n = c.from-number.ensures in
     let l = c.learners_of.ensures.0 in
     refused_learner r a.learner (sym c.fits.ensures ∙ c.if-not-fits.false) (omega (arith, c.if-learners_of-number.true))
 
@@ -31,14 +31,14 @@ verdict_for-requires c =
     let r = round_in s in
     let f : fits r ≡ true = sym c.fits.ensures ∙ c.if-not-fits.false in
     let l = c.learners_of.ensures.0 in
-    (record { long = c.requires; fit = subst T (sym f) tt }, (c.masks_in-masks.ensures ∙ sym (masks_in s), omega (arith, c.if-learners_of-number.false)))
+    (record { long = c.requires; fit = subst T (sym f) tt }, (c.graph_in-graph.ensures, omega (arith, c.if-learners_of-number.false)))
 
 pub returns : goal.returns
 returns c =
     let a = c.args in
     let r = round_in a.s.now in
     let f : fits r ≡ true = sym c.fits.ensures ∙ c.if-not-fits.false in
-    let n = c.size-number.ensures.0 in
+    let n = c.from-number.ensures in
     let l = c.learners_of.ensures.0 in
-    c.verdict_for.ensures ∙ ap (λ (k : ℕ). told (paper.report (graph_of r) (known_messages r) k)) n
+    ap Ok (c.verdict_for.ensures ∙ ap (λ (k : ℕ). told (paper.report (graph_of r) (known_messages r) k)) n)
     ∙ reported_told r a.learner f (omega (arith, c.if-learners_of-number.false))

@@ -1,5 +1,5 @@
 -- A message that is taken and enters a round: what each step needs, and what an entering gives.
-use Rattle.std.specs.Prelude.{◌≡◌, not, List, ℕ, ◌≤◌, T, length}
+use Rattle.std.specs.Prelude.{◌≡◌, not, List, ℕ, ◌≤◌, Option, T, length}
 use Rattle.message.specs.Layout.{id_len}
 use Rattle.protocol.specs.Ids.{Id}
 use Rattle.protocol.specs.Table.{Held}
@@ -9,7 +9,6 @@ use Rattle.round.specs.Rows.{full}
 use Rattle.round.specs.Delivery.{entered_in, entered_at}
 use Rattle.roundbytes.specs.Layout.{round_in}
 use Rattle.roundbytes.specs.Inside.Keeping.{Kept}
-use Rattle.admission.specs.declared.lookup.Found.{Found}
 use Rattle.admission.specs.declared.rows.Vote.{Vote}
 use Rattle.admission.specs.Inside.Finding.{place_found}
 use Rattle.judging.specs.Inside.Standing.{Passes}
@@ -26,7 +25,7 @@ pub record Takes (s : List ℕ) (i : Id) (buffer : List ℕ) : Type 0 where
   pub long : reply_len ≤ length buffer
 
 -- where rows 8 to 12 of an acceptor message are clear
-pub record Settles (s : List ℕ) (i : Id) (f : Found) (v : Vote) (buffer : List ℕ) : Type 0 where
+pub record Settles (s : List ℕ) (i : Id) (f : Option ℕ) (v : Vote) (buffer : List ℕ) : Type 0 where
   -- what is asked of a message that is taken holds,
   pub takes : Takes s i buffer
   -- f is what was found for its id,
@@ -35,7 +34,7 @@ pub record Settles (s : List ℕ) (i : Id) (f : Found) (v : Vote) (buffer : List
   pub refers : Referring (round_in s) v
 
 -- where no row applies
-pub record Enterable (s : List ℕ) (i : Id) (f : Found) : Type 0 where
+pub record Enterable (s : List ℕ) (i : Id) (f : Option ℕ) : Type 0 where
   -- the round passes row 17,
   pub passes : Passes s
   -- the id is whole,
@@ -46,7 +45,7 @@ pub record Enterable (s : List ℕ) (i : Id) (f : Found) : Type 0 where
   pub free : T (not (full (round_in s) i))
 
 -- ---- what an entering gives: the bytes s became t
-pub record Enters (s t : List ℕ) (h : Held) (f : Found) (p : ℕ) : Type 0 where
+pub record Enters (s t : List ℕ) (h : Held) (f : Option ℕ) (p : ℕ) : Type 0 where
   -- the message is held in the round,
   pub round : round_in t ≡ entered_in (round_in s) h (place_found f)
   -- p is its place,

@@ -1,23 +1,15 @@
 -- What the steps of `read` and `write` ask and answer.
-use Rattle.std.specs.Prelude.{List, ◌≡◌, ℕ, ◌+◌, ◌-◌, ◌^◌, ◌≤◌, ◌<◌, length, get_or}
+use Rattle.std.specs.Prelude.{List, ◌≡◌, ℕ, ◌+◌, ◌-◌, ◌^◌, ◌≤◌, ◌<◌, length, get_or, Result, Ok, Err}
 use Rattle.base.specs.Bytes.{put_at}
-use Rattle.graph.specs.declared.Answer.{Answer}
-use Rattle.graph.specs.declared.Answer.TheVariants.{Accepted, Refused}
+use Rattle.base.specs.declared.refusal.Refusal.{Refusal}
+use Rattle.graph.specs.declared.Graph.{Graph}
 use Rattle.graph.specs.Limits.{max_acceptors, max_learners, mask_bytes}
-use Rattle.graph.specs.Memory.{list_of, pair_list, GraphSized}
-use Rattle.graphfile.specs.declared.file.Field.{Field}
+use Rattle.graph.specs.Memory.{view_of}
 use Rattle.graphfile.specs.File.{most_said, acceptors_at, learners_at, lists_at, Got, got, no, contents, read_graph}
-use Rattle.graphfile.specs.Arrays.{ListArrays}
+use Rattle.graphfile.specs.Arrays.{ListArrays, graph_of_held}
 use Rattle.graphfile.specs.Writer.{listed, rows_from}
 
 -- ---- what the steps of `read` ask
--- of the lists of a graph in memory
-pub record InMemory (counts masks : List ℕ) (learners : ℕ) : Type 0 where
-  -- there are no more learners than there is room for,
-  pub few : learners ≤ max_learners
-  -- and the arrays have their sizes
-  pub sized : GraphSized counts masks
-
 -- a file of n acceptors that is read from a place on:
 pub record ReadFrom (s : List ℕ) (at n : ℕ) : Type 0 where
   -- it is no longer than it can say, so that places in it can be counted,
@@ -29,26 +21,33 @@ pub record ReadFrom (s : List ℕ) (at n : ℕ) : Type 0 where
 
 -- ---- what the steps of `read` answer
 -- what stands before the lists is in order, and the file is what the lists behind it are; or why the file is turned down there
-abbrev pub HeadOf : List ℕ → Answer → Type 0
-HeadOf s Accepted =
+abbrev pub HeadOf : List ℕ → Result Unit Refusal → Type 0
+HeadOf s (Ok x) =
     ReadFrom s lists_at (get_or s acceptors_at 0) × (get_or s learners_at 0 ≤ max_learners)
     × (contents s ≡ read_graph s (get_or s acceptors_at 0) (get_or s learners_at 0) lists_at)
-HeadOf s (Refused r) = contents s ≡ no r
+HeadOf s (Err r) = contents s ≡ no r
 
 -- what was read
-abbrev pub field_of : Got ℕ → Field
-field_of (got x at) = Field.Is x
-field_of (no r) = Field.Refused r
+abbrev pub field_of : Got ℕ → Result ℕ Refusal
+field_of (got x at) = Ok x
+field_of (no r) = Err r
 
 -- the masks of a list were put in from `first` on, and the place behind is the answer
-abbrev pub MasksHeld : Got (List ℕ) → Field → ℕ → List ℕ → List ℕ → Type 0
-MasksHeld (got l next) f first before after = (f ≡ Field.Is next) × (after ≡ put_at before first l)
-MasksHeld (no r) f first before after = f ≡ Field.Refused r
+abbrev pub MasksHeld : Got (List ℕ) → Result ℕ Refusal → ℕ → List ℕ → List ℕ → Type 0
+MasksHeld (got l next) f first before after = (f ≡ Ok next) × (after ≡ put_at before first l)
+MasksHeld (no r) f first before after = f ≡ Err r
+
+-- the lists of a graph in memory, and the graph with others
+abbrev pub lists_in : Graph → ListArrays
+lists_in g = record { counts = g.counts; masks = g.masks }
+
+abbrev pub with_lists : Graph → ListArrays → Graph
+with_lists g h = graph_of_held g.acceptors g.learners h
 
 -- what was read was put in, and the place behind is the answer
-abbrev pub HeldAfter : {A : Type 0} → Got A → (A → ListArrays) → Field → ListArrays → Type 0
-HeldAfter (got x next) put f after = (f ≡ Field.Is next) × (after ≡ put x)
-HeldAfter (no r) put f after = f ≡ Field.Refused r
+abbrev pub HeldAfter : {A : Type 0} → Got A → (A → ListArrays → ListArrays) → Result ℕ Refusal → Graph → Graph → Type 0
+HeldAfter (got x next) put f before after = (f ≡ Ok next) × (after ≡ with_lists before (put x (lists_in before)))
+HeldAfter (no r) put f before after = f ≡ Err r
 
 -- ---- what the steps of `write` hold to and answer
 abbrev pub MasksFit : List ℕ → Type 0
@@ -69,12 +68,12 @@ pub record PutIn (e : List ℕ) (at r : ℕ) (before after : List ℕ) : Type 0 
   pub held : after ≡ put_at before at e
 
 -- the quorums of all learners, the row of learner a, and all rows
-module _ (counts masks : List ℕ) (learners : ℕ) where
+module _ (g : Graph) where
   abbrev pub quorums_of : List (List ℕ)
-  quorums_of = listed (λ a. list_of counts masks a) 0 learners
+  quorums_of = listed (view_of g).quorums 0 g.learners
 
   abbrev pub row_of : ℕ → List (List ℕ)
-  row_of a = listed (λ b. list_of counts masks (pair_list a b)) a (learners - a)
+  row_of a = listed ((view_of g).safes a) a (g.learners - a)
 
   abbrev pub rows_of : List (List (List ℕ))
-  rows_of = rows_from (λ a b. list_of counts masks (pair_list a b)) 0 learners
+  rows_of = rows_from (view_of g).safes 0 g.learners

@@ -49,14 +49,14 @@ pub returns-then-count-gt-MAX_HELD : goal.returns-then-count-gt-MAX_HELD
 returns-then-count-gt-MAX_HELD c =
     let a = c.args in
     let r = round_in a.s.now in
-    let n : c.size-count.result ≡ get_or r.counts a.p 0 = c.size-count.ensures.0 ∙ c.count_at.ensures in
+    let n : c.from-count.result ≡ get_or r.counts a.p 0 = c.from-count.ensures ∙ c.count_at.ensures in
     sym (many r a.p (omega (arith, c.if-count-gt-MAX_HELD.true)))
 
 pub returns-then-not-place_fits : goal.returns-then-not-place_fits
 returns-then-not-place_fits c =
     let a = c.args in
     let r = round_in a.s.now in
-    let n : c.size-count.result ≡ get_or r.counts a.p 0 = c.size-count.ensures.0 ∙ c.count_at.ensures in
+    let n : c.from-count.result ≡ get_or r.counts a.p 0 = c.from-count.ensures ∙ c.count_at.ensures in
     let here = placed r a.p c.previous_at.result c.held_of.result c.place_fits.result false c.previous_at.ensures c.held_of.ensures.0 c.place_fits.ensures c.if-not-place_fits.true in
     sym (misplaced r a.p (omega (arith, c.if-count-gt-MAX_HELD.false)) here)
 
@@ -64,7 +64,7 @@ pub returns-then-kind_at-eq-PROPOSAL : goal.returns-then-kind_at-eq-PROPOSAL
 returns-then-kind_at-eq-PROPOSAL c =
     let a = c.args in
     let r = round_in a.s.now in
-    let n : c.size-count.result ≡ get_or r.counts a.p 0 = c.size-count.ensures.0 ∙ c.count_at.ensures in
+    let n : c.from-count.result ≡ get_or r.counts a.p 0 = c.from-count.ensures ∙ c.count_at.ensures in
     let here = placed r a.p c.previous_at.result c.held_of.result c.place_fits.result true c.previous_at.ensures c.held_of.ensures.0 c.place_fits.ensures c.if-not-place_fits.false in
     sym (proposal r a.p (omega (arith, c.if-count-gt-MAX_HELD.false)) here (sym c.kind_at.ensures ∙ c.if-kind_at-eq-PROPOSAL.true))
 
@@ -72,7 +72,7 @@ pub returns-then-count-lt1 : goal.returns-then-count-lt1
 returns-then-count-lt1 c =
     let a = c.args in
     let r = round_in a.s.now in
-    let n : c.size-count.result ≡ get_or r.counts a.p 0 = c.size-count.ensures.0 ∙ c.count_at.ensures in
+    let n : c.from-count.result ≡ get_or r.counts a.p 0 = c.from-count.ensures ∙ c.count_at.ensures in
     let here = placed r a.p c.previous_at.result c.held_of.result c.place_fits.result true c.previous_at.ensures c.held_of.ensures.0 c.place_fits.ensures c.if-not-place_fits.false in
     sym (bare r a.p (omega (arith, c.if-count-gt-MAX_HELD.false)) here (λ k. c.if-kind_at-eq-PROPOSAL.false (c.kind_at.ensures ∙ k)) (omega (arith, c.if-count-lt1.true)))
 
@@ -80,7 +80,7 @@ pub returns : goal.returns
 returns c =
     let a = c.args in
     let r = round_in a.s.now in
-    let n : c.size-count.result ≡ get_or r.counts a.p 0 = c.size-count.ensures.0 ∙ c.count_at.ensures in
+    let n : c.from-count.result ≡ get_or r.counts a.p 0 = c.from-count.ensures ∙ c.count_at.ensures in
     let here = placed r a.p c.previous_at.result c.held_of.result c.place_fits.result true c.previous_at.ensures c.held_of.ensures.0 c.place_fits.ensures c.if-not-place_fits.false in
     c.refers_back.ensures ∙ ap (λ (k : ℕ). all (λ (j : ℕ). ltb j a.p) (part k r.references (max_held * a.p))) n
     ∙ sym (vote r a.p (omega (arith, c.if-count-gt-MAX_HELD.false)) here (λ k. c.if-kind_at-eq-PROPOSAL.false (c.kind_at.ensures ∙ k)) (omega (arith, c.if-count-lt1.false)))

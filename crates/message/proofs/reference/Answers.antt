@@ -1,20 +1,17 @@
-use mathlib.Core.Path.{ap, sym, ◌∙◌}
-use Rattle.message.specs.declared.Reading.{Reading}
-use Rattle.message.specs.Reader.{reference_of}
-use Rattle.message.proofs.Checks.{nth_of_acceptor, nth_of_none}
+use mathlib.Core.Path.{◌≡◌, ap, sym, ◌∙◌}
+use Rattle.std.proofs.Common.{Result, Ok}
+use Rattle.base.specs.declared.refusal.Refusal.{Refusal}
+use Rattle.message.specs.declared.Message.{Message}
+use Rattle.message.specs.declared.Message.TheVariants.{OfAcceptor}
+use Rattle.message.specs.Reader.{reading, nth_of, reference_of}
+use Rattle.message.proofs.Checks.{nth_of_acceptor}
 use Rattle.message.proofs.reference.Goals as goal
-
-pub returns-in-Refused : goal.returns-in-Refused
-returns-in-Refused c = ap (λ (x : Reading). reference_of x c.args.n) (sym c.in-Refused.is ∙ c.read.ensures)
-
-pub returns-in-OfProposer : goal.returns-in-OfProposer
-returns-in-OfProposer c =
-    let a = c.args in
-    c.nth_of.ensures ∙ nth_of_none a.bytes.now a.n ∙ ap (λ (x : Reading). reference_of x a.n) (sym c.in-OfProposer.is ∙ c.read.ensures)
 
 pub returns-in-OfAcceptor : goal.returns-in-OfAcceptor
 returns-in-OfAcceptor c =
-    let a = c.args in
+    let n = c.args.n in
     let m = c.in-OfAcceptor.m in
-    let e = sym c.read.ensures ∙ c.in-OfAcceptor.is in
-    c.nth_of-in-OfAcceptor.ensures ∙ nth_of_acceptor a.bytes.now m a.n e ∙ ap (λ (x : Reading). reference_of x a.n) (sym e)
+    let read : reading c.args.bytes.now ≡ Ok (OfAcceptor m) = sym c.in_ok-read.ensures ∙ ap (λ (x : Message). Ok x) c.in-OfAcceptor.is in
+    let ids = c.new.ensures in
+    c.nth.ensures ∙ (λ i. nth_of (ids.0 i).now (ids.1 i) n) ∙ nth_of_acceptor c.args.bytes.now m n read
+    ∙ ap (λ (x : Result Message Refusal). reference_of x n) (sym read)

@@ -7,16 +7,10 @@ use Rattle.base.proofs.Bytes.{more_at}
 use Rattle.message.specs.Layout.{marker, acceptor_len}
 use Rattle.message.specs.Writer.{head_bytes, has_previous, fronted}
 use Rattle.message.specs.Inside.Writing.{gathered}
-use Rattle.message.proofs.Encoding.{head_length, previous_span, acceptor_length_lem}
+use Rattle.message.proofs.Encoding.{head_length, marker_byte, previous_span, acceptor_length_lem}
 use Rattle.message.proofs.Gathers.{gathered_length}
-use borrow.Author.Rules.{rules}
 use native.Mathlib.Omega.{arith}
 use Rattle.message.proofs.write_acceptor.Goals as goal
-
-pub put_all-requires : goal.put_all-requires
-put_all-requires c =
-    let e = previous_span c.args.previous.now c.requires.previous_id in
-    search rules
 
 pub returns : goal.returns
 returns c =
@@ -36,7 +30,7 @@ returns c =
     let k₂ = length-append (h ++ m) old in
     let k₃ = length-append (h ++ m ++ old) (n ∷ []) in
     let w₀ = c.write_head.ensures ∙ ap (λ (x : ℕ). fronted (head_bytes x 2 a.house a.bay a.signer) b) len in
-    let w₁ = c.put8.ensures ∙ ap (λ (x : ℕ). put_at c.write_head.new.buf 9 (x ∷ [])) c.marker_of.ensures in
+    let w₁ = c.put8.ensures ∙ ap (λ (x : ℕ). put_at c.write_head.new.buf 9 (x ∷ [])) (c.from.ensures ∙ marker_byte (has_previous old)) in
     let m₁ = more_at h m b c.write_head.new.buf c.put8.new.buf 9 k₀ w₀ w₁ in
     let m₂ = more_at (h ++ m) old b c.put8.new.buf c.put_all.new.buf 10 (omega arith) m₁ c.put_all.ensures in
     let m₃ = more_at (h ++ m ++ old) (n ∷ []) b c.put_all.new.buf c.put8-2.new.buf at (omega arith) m₂ c.put8-2.ensures in

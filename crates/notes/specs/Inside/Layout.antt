@@ -1,5 +1,5 @@
--- The notes of a round's places, in two lent arrays: one of words and one of bytes. For each place is noted what its message means.
-use Rattle.std.specs.Prelude.{◌≡◌, List, ℕ, ◌+◌, length, get_or}
+-- The notes of a round's places, in two arrays: one of words and one of bytes. For each place is noted what its message means.
+use Rattle.std.specs.Prelude.{List, ℕ, ◌+◌, get_or}
 use Rattle.base.specs.Bytes.{part}
 use Rattle.round.specs.Limits.{max_held, no_place}
 
@@ -136,10 +136,3 @@ byte_notes b =
       fresh = part max_held b fresh_at;
       forms = part max_held b forms_at;
     }
-
--- ---- arrays that have room for them
-pub record Lent (words octets : List ℕ) : Type 0 where
-  -- for those in words,
-  pub word_room : length words ≡ words_len
-  -- and for those in bytes
-  pub octet_room : length octets ≡ octets_len

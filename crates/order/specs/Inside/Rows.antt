@@ -1,17 +1,15 @@
 -- Rows 8 to 16 of an acceptor message in three parts, as they are asked: those before its references, those on them, and those after. The first row
 -- that applies counts. Each test is what it answered.
-use Rattle.std.specs.Prelude.{Bool, not}
+use Rattle.std.specs.Prelude.{Bool, not, Result, Ok, Err}
 use Rattle.std.proofs.Math.Option.{Option, none, some}
 use Rattle.base.specs.Tests.{pick}
 use Rattle.base.specs.declared.refusal.Refusal.{Refusal}
 use Rattle.base.specs.declared.refusal.Refusal.TheVariants.{OtherRound, Signer, Known, Reference, Previous, Malformed1b, Malformed2a, Full}
-use Rattle.order.specs.declared.rows.Row.{Row}
-use Rattle.order.specs.declared.rows.Row.TheVariants.{Clear, Applies}
 
--- a row as it is told
-abbrev pub row_of : Option Refusal → Row
-row_of none = Clear
-row_of (some e) = Applies e
+-- the row that an answer names, if one
+abbrev pub row_of : {A : Type 0} → Result A Refusal → Option Refusal
+row_of (Ok x) = none
+row_of (Err e) = some e
 
 -- rows 8, 9 and 10
 abbrev pub head_row : Bool → Bool → Bool → Option Refusal

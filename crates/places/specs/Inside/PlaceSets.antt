@@ -1,5 +1,5 @@
 -- A set of places, of 0 to 127, as two words: bit j of the first is place j, bit j of the second place 64 + j.
-use Rattle.std.specs.Prelude.{◌≡◌, Bool, false, not, ◌&&◌, List, ℕ, ◌-◌, ◌≤◌, ◌<◌, T, eqb, ltb, length, get_or}
+use Rattle.std.specs.Prelude.{◌≡◌, Bool, false, not, ◌&&◌, List, [], ◌∷◌, ℕ, zero, suc, ◌+◌, ◌-◌, ◌≤◌, ◌<◌, T, eqb, ltb, length, get_or}
 use Rattle.base.specs.Tests.{pick, any, below}
 use Rattle.base.specs.Sets.{has}
 use Rattle.round.specs.Limits.{max_held}
@@ -27,6 +27,11 @@ pub record First (n low high r : ℕ) : Type 0 where
 -- the second set is the first one without its first place
 abbrev pub Dropped : ℕ → ℕ → ℕ → ℕ → Type 0
 Dropped low high low' high' = (f : ℕ) → T (in_set low high f) → NoneBelow low high f → (q : ℕ) → in_set low' high' q ≡ (in_set low high q && not (eqb q f))
+
+-- ---- the places of the set among the k from j on, in ascending order
+unfoldable pub members : ℕ → ℕ → ℕ → ℕ → List ℕ
+members low high j zero = []
+members low high j (suc k) = pick (in_set low high j) (j ∷ members low high (j + 1) k) (members low high (j + 1) k)
 
 -- ---- arrays over the places
 -- an array with an entry for each place

@@ -1,12 +1,11 @@
-use mathlib.Core.Path.{◌≡◌, refl, ap, ap₂, sym, ◌∙◌}
+use mathlib.Core.Path.{refl, ap, ap₂, sym, ◌∙◌}
 use mathlib.Core.List.{List, [], ◌∷◌, ◌++◌}
-use Prim.Native.Nat.{ℕ, ◌*◌}
+use Prim.Native.Nat.{ℕ}
 use native.Mathlib.Numerals.{add-one}
 use lib.ListN.{take, set, length-set}
-use lib.Seq.{take_all, take-suc-set}
+use lib.Seq.{take-suc-set}
 use Rattle.roundbytes.specs.Layout.{numbers, masks_at}
 use native.Mathlib.Omega.{arith}
-use Rattle.graph.specs.Limits.{lists, max_masks}
 use Rattle.roundbytes.proofs.masks_in.Goals as goal
 
 pub loop-i-init : goal.loop-i-init
@@ -20,15 +19,9 @@ loop-i-preserved c = let a = c.args in
     let x = c.read32.result in (
       omega arith,
       (
-        length-set l.out l.i x ∙ l.invariant.1.0,
-        ap (λ (n : ℕ). take n (set l.out l.i x)) (add-one l.i) ∙ take-suc-set l.out l.i x (omega arith)
+        length-set l.mask-items l.i x ∙ l.invariant.1.0,
+        ap (λ (n : ℕ). take n (set l.mask-items l.i x)) (add-one l.i) ∙ take-suc-set l.mask-items l.i x (omega arith)
             ∙ ap₂ (λ (p : List ℕ) (y : ℕ). p ++ (y ∷ [])) l.invariant.1.1 c.read32.ensures
             ∙ sym (ap (λ (n : ℕ). numbers 4 n a.s.now masks_at) (add-one l.i)),
       ),
     )
-
-pub returns : goal.returns
-returns c = let a = c.args in
-    let l = c.loop-i in
-    let e : l.i ≡ (max_masks * lists) = omega arith in
-    sym (take_all (max_masks * lists) l.out (omega arith)) ∙ ap (λ (n : ℕ). take n l.out) (sym e) ∙ l.invariant.1.1 ∙ ap (λ (n : ℕ). numbers 4 n a.s.now masks_at) e

@@ -1,9 +1,9 @@
-use mathlib.Core.Path.{◌≡◌, refl, ap, sym, ◌∙◌}
+use mathlib.Core.Path.{refl, ap, sym, ◌∙◌}
 use mathlib.Core.List.{List}
 use Prim.Native.Nat.{ℕ, ◌+◌, ◌*◌}
 use native.Mathlib.Numerals.{add-one}
-use lib.ListN.{length, get_or, take}
-use lib.Seq.{length-take-le, take-length, take-suc}
+use lib.ListN.{get_or, take}
+use lib.Seq.{length-take-le, take-suc}
 use Rattle.base.specs.Bytes.{bytes, put_at}
 use Rattle.base.proofs.Bytes.{put_at_none, put_at_more}
 use Rattle.roundbytes.specs.Layout.{words, masks_at}
@@ -33,10 +33,3 @@ loop-i-preserved c = let b = c.args.buf.now in
             ∙ sym (ap (λ (n : ℕ). put_at b masks_at (words 4 (take n v))) (add-one l.i)),
       ),
     )
-
-pub returns : goal.returns
-returns c = let b = c.args.buf.now in
-    let v = c.args.masks.now in
-    let l = c.loop-i in
-    let e : l.i ≡ length v = omega arith in
-    l.invariant.1.1 ∙ ap (λ (n : ℕ). put_at b masks_at (words 4 (take n v))) e ∙ ap (λ (y : List ℕ). put_at b masks_at (words 4 y)) (take-length v)

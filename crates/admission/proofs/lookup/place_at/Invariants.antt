@@ -1,4 +1,4 @@
-use Prim.Native.Nat.{◌≤◌, ◌-◌}
+use Prim.Native.Nat.{◌≤◌}
 use mathlib.Core.Path.{◌≡◌}
 use mathlib.Core.Option.{none}
 use Rattle.roundbytes.specs.Layout.{round_in}
@@ -12,6 +12,3 @@ use Rattle.admission.proofs.lookup.place_at.Given as goal
 -- The invariant: no place below p has the id.
 abbrev pub invariant-loop-p : goal.invariant-loop-p
 invariant-loop-p l = (l.p ≤ l.held) × ((l.held ≤ max_held) × (lowest (has_id (round_in l.s) (part id_len l.bytes l.at)) l.p ≡ none))
-
-abbrev pub decreases-loop-p : goal.decreases-loop-p
-decreases-loop-p l = l.held - l.p

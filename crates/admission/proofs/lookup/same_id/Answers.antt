@@ -1,10 +1,11 @@
-use mathlib.Core.Path.{sym}
+use mathlib.Core.Path.{sym, ◌∙◌}
+use borrow.Author.Tests.{ne_eqb}
 use native.Mathlib.Omega.{arith}
 use Rattle.admission.proofs.Finding.{first_differs}
 use Rattle.admission.proofs.lookup.same_id.Goals as goal
 
-pub returns-then-read64 : goal.returns-then-read64
-returns-then-read64 c =
-    let s = c in
-    sym (first_differs s.args.a.now s.args.b.now (λ k. omega (arith, c.shared_slice_known-1.given k)) (λ k. omega (arith, c.shared_slice_known-2-1.given k))
-    s.args.i s.args.j s.requires.0 s.requires.1 (λ e. omega arith))
+pub returns-else-read64 : goal.returns-else-read64
+returns-else-read64 c =
+    let a = c.args in
+    ne_eqb c.read64.result c.read64-2.result c.if-read64.false
+    ∙ sym (first_differs a.a.now a.b.now (λ k. omega (arith, c.type_inv.a k)) (λ k. omega (arith, c.type_inv.b k)) a.i a.j c.requires.0 c.requires.1 (λ e. omega (arith, c.if-read64.false)))

@@ -1,14 +1,12 @@
 use mathlib.Core.List.{List, ◌++◌, ◌∷◌, []}
 use Prim.Native.Nat.{ℕ, ◌<◌, ◌-◌, ◌+◌, ◌*◌}
 use mathlib.Core.Bool.{Bool, false, ◌&&◌, not, true}
-use mathlib.Core.Path.{◌≡◌, ◌∙◌, ap, sym, refl, subst, ap₂}
-use lib.ListN.{take, length-set, set}
+use mathlib.Core.Path.{◌≡◌, ◌∙◌, ap, sym, ap₂}
+use lib.ListN.{length}
 use native.Mathlib.Omega.{arith}
 use mathlib.Core.Option.{none}
-use lib.Dec.{T}
+use Rattle.std.proofs.Common.{rules, None, is_none}
 use borrow.Author.Tests.{eq-eqb, ne_eqb}
-use native.Mathlib.Numerals.{add-one}
-use lib.Seq.{take-suc-set}
 use Rattle.base.specs.Tests.{all}
 use Rattle.round.specs.Rows.{ids_from, is_known_id, lacks, reference_ids, placed, or_zero}
 use Rattle.message.specs.Layout.{id_len, references_at}
@@ -38,43 +36,46 @@ loop-i-init c =
     let at = c.references_at-at.result in
     let e : a.m.count ≡ a.m.count - 0 = omega arith in
     let f : at ≡ at + id_len * 0 = omega arith in
-    (omega arith, (refl, (λ k. all (is_known_id (round_in a.s.now)) (ids_from (e k) a.bytes.now (f k)), refl)))
+    record {
+      within = omega arith;
+      counted = ap length c.new-places.ensures;
+      left = λ k. all (is_known_id (round_in a.s.now)) (ids_from (e k) a.bytes.now (f k));
+      placed = c.new-places.ensures;
+    }
 
-pub returns-in_default : goal.returns-in_default
-returns-in_default c =
+pub returns-in_err-p-clause-ruled : goal.returns-in_err-p-clause-ruled
+returns-in_err-p-clause-ruled c =
     let a = c.args in
     let l = c.loop-i in
     let r = round_in a.s.now in
     let at = c.references_at-at in
-    let i = part id_len a.bytes.now (at.result + id_len * l.i) in
-    let o : place_of r i ≡ none = sym c.place_at.ensures ∙ ap place_found c.in_default.is in record { ruled = sym (lacks_by r a.bytes.now a.m at.result false at.ensures.0 (lacking (is_known_id r) a.bytes.now at.result a.m.count l.i (omega arith) l.invariant.1.1.0 (ap (placed (is_known r)) o))); placed = λ e. absurd (subst T e tt) }
+    let o : place_of r (part id_len a.bytes.now (at.result + id_len * l.i)) ≡ none = sym c.place_at.ensures ∙ ap place_found c.in_err-p.was in
+    let e : c.from_residual.result ≡ None = search rules in
+    ap is_none e ∙ sym (lacks_by r a.bytes.now a.m at.result false at.ensures.0 (lacking (is_known_id r) a.bytes.now at.result a.m.count l.i (omega arith) l.invariant.left (ap (placed (is_known r)) o)))
 
 pub known_at-requires : goal.known_at-requires
 known_at-requires c =
     let a = c.args in
     let w = c.requires.0 in
     let i = part id_len a.bytes.now (c.references_at-at.result + id_len * c.loop-i.i) in
-    (w.long, omega (arith, w.most, found_inside (round_in a.s.now) i _ c.place_at.ensures _ c.in-At.is))
+    (w.long, omega (arith, w.most, found_inside (round_in a.s.now) i _ c.place_at.ensures _ c.in_ok-p.was))
 
-pub returns-then-known_at-eq0 : goal.returns-then-known_at-eq0
-returns-then-known_at-eq0 c =
+pub returns-then-known_at-eq0-clause-ruled : goal.returns-then-known_at-eq0-clause-ruled
+returns-then-known_at-eq0-clause-ruled c =
     let a = c.args in
     let l = c.loop-i in
     let r = round_in a.s.now in
     let at = c.references_at-at in
-    let i = part id_len a.bytes.now (at.result + id_len * l.i) in
-    let o = found_at r i _ c.place_at.ensures _ c.in-At.is in
-    let t = c.known_at.ensures in record {
-      ruled = sym (lacks_by r a.bytes.now a.m at.result false at.ensures.0 (lacking (is_known_id r) a.bytes.now at.result a.m.count l.i (omega arith) l.invariant.1.1.0
-          (ap (placed (is_known r)) o ∙ ap not (eq-eqb _ 0 (sym t ∙ c.if-known_at-eq0.true)))));
-      placed = λ e. absurd (subst T e tt);
-    }
+    let o = found_at r (part id_len a.bytes.now (at.result + id_len * l.i)) _ c.place_at.ensures _ c.in_ok-p.was in
+    let t = c.known_at.ensures in
+    sym (lacks_by r a.bytes.now a.m at.result false at.ensures.0 (lacking (is_known_id r) a.bytes.now at.result a.m.count l.i (omega arith) l.invariant.left
+    (ap (placed (is_known r)) o ∙ ap not (eq-eqb _ 0 (sym t ∙ c.if-known_at-eq0.true)))))
 
-pub overflow_cast-places : goal.overflow_cast-places
-overflow_cast-places c =
+pub overflow_cast-p : goal.overflow_cast-p
+overflow_cast-p c =
     let a = c.args in
     let i = part id_len a.bytes.now (c.references_at-at.result + id_len * c.loop-i.i) in
-    omega (arith, c.requires.0.most, found_inside (round_in a.s.now) i _ c.place_at.ensures _ c.in-At.is)
+    omega (arith, c.requires.0.most, found_inside (round_in a.s.now) i _ c.place_at.ensures _ c.in_ok-p.was)
 
 pub loop-i-preserved : goal.loop-i-preserved
 unfolding all
@@ -83,23 +84,18 @@ loop-i-preserved c =
     let l = c.loop-i in
     let r = round_in a.s.now in
     let at = c.references_at-at.result in
-    let p = c.in-At.p in
+    let p = c.in_ok-p.p in
     let i = part id_len a.bytes.now (at + id_len * l.i) in
-    let o = found_at r i _ c.place_at.ensures _ c.in-At.is in
-    let t = c.known_at.ensures in (
-      omega arith,
-      (
-        length-set l.places l.i p ∙ l.invariant.1.0,
-        (
-          l.invariant.1.1.0 ∙ ap (all (is_known_id r)) (ids_step a.bytes.now at a.m.count l.i (omega arith))
-              ∙ ap (λ (b : Bool). b && all (is_known_id r) (ids_from (a.m.count - (l.i + 1)) a.bytes.now (at + id_len * (l.i + 1))))
-              (ap (placed (is_known r)) o ∙ ap not (ne_eqb _ 0 (λ e. c.if-known_at-eq0.false (t ∙ e)))),
-          ap (λ (n : ℕ). take n (set l.places l.i p)) (add-one l.i) ∙ take-suc-set l.places l.i p (omega arith)
-              ∙ ap₂ (λ (x : List ℕ) (y : ℕ). x ++ (y ∷ [])) l.invariant.1.1.1 (sym (ap or_zero o))
-              ∙ sym (places_more r a.bytes.now at l.i),
-        ),
-      ),
-    )
+    let o = found_at r i _ c.place_at.ensures _ c.in_ok-p.was in
+    let t = c.known_at.ensures in
+    record {
+      within = omega arith;
+      counted = c.push.ensures.len ∙ ap (λ (n : ℕ). n + 1) l.invariant.counted;
+      left = l.invariant.left ∙ ap (all (is_known_id r)) (ids_step a.bytes.now at a.m.count l.i (omega arith))
+          ∙ ap (λ (b : Bool). b && all (is_known_id r) (ids_from (a.m.count - (l.i + 1)) a.bytes.now (at + id_len * (l.i + 1))))
+          (ap (placed (is_known r)) o ∙ ap not (ne_eqb _ 0 (λ e. c.if-known_at-eq0.false (t ∙ e))));
+      placed = c.push.ensures.items ∙ ap₂ (λ (x : List ℕ) (y : ℕ). x ++ (y ∷ [])) l.invariant.placed (sym (ap or_zero o)) ∙ sym (places_more r a.bytes.now at l.i);
+    }
 
 pub returns : goal.returns
 unfolding all ids_from
@@ -109,4 +105,8 @@ returns c =
     let r = round_in a.s.now in
     let at = c.references_at-at in
     let e : a.m.count - l.i ≡ 0 = omega arith in
-    let f : l.i ≡ a.m.count = omega arith in record { ruled = sym (lacks_by r a.bytes.now a.m at.result true at.ensures.0 (l.invariant.1.1.0 ∙ ap (λ (n : ℕ). all (is_known_id r) (ids_from n a.bytes.now (at.result + id_len * l.i))) e)); placed = λ _. sym (ap (λ (n : ℕ). take n l.places) f) ∙ l.invariant.1.1.1 ∙ ap₂ (λ (n k : ℕ). places_of r (ids_from n a.bytes.now k)) f at.ensures.0 }
+    let f : l.i ≡ a.m.count = omega arith in record {
+      ruled = sym (lacks_by r a.bytes.now a.m at.result true at.ensures.0 (l.invariant.left ∙ ap (λ (n : ℕ). all (is_known_id r) (ids_from n a.bytes.now (at.result + id_len * l.i))) e));
+      counted = l.invariant.counted ∙ f;
+      placed = l.invariant.placed ∙ ap₂ (λ (n k : ℕ). places_of r (ids_from n a.bytes.now k)) f at.ensures.0;
+    }

@@ -8,4 +8,4 @@ pub returns : goal.returns
 returns c =
     let a = c.args in
     let r = round_in a.s.now in
-    sent_judged r (message_of r (record_of r a.id.now a.vote)) c.judge_vote-note.result c.judge_vote-note.ensures
+    sent_judged r (message_of r (record_of r a.id.now a.vote.now)) c.judge_vote-note.result c.judge_vote-note.ensures

@@ -1,11 +1,10 @@
 use Rattle.meaning.proofs.Giving.{given_of}
-use mathlib.Core.Path.{subst, refl, ◌∙◌, sym}
+use mathlib.Core.Path.{subst, refl}
 use Prim.Native.Nat.{ℕ, ◌≤◌}
 use native.Mathlib.Omega.{arith}
 use Rattle.answering.proofs.Replying.{process_listening, process_voting}
 use Rattle.digest.specs.Sha256.{sha256}
 use Rattle.round.specs.Limits.{listening}
-use Rattle.roundbytes.proofs.Fields.{masks_in}
 use Rattle.roundbytes.specs.Layout.{round_in}
 use Rattle.answering.specs.Inside.Giving.{left}
 use Rattle.answering.proofs.answer.process_offer.Goals as goal
@@ -20,14 +19,14 @@ pub work_out-requires : goal.work_out-requires
 work_out-requires c =
     let a = c.args in
     let p = c.requires in
-    given_of a.s.now _ _ _ p.passes.long (c.masks_in-masks.ensures ∙ sym (masks_in a.s.now)) p.passes.fit (record { word_room = refl; octet_room = refl })
+    given_of a.s.now _ p.passes.long c.graph_in-graph.ensures p.passes.fit
 
 pub answer-requires : goal.answer-requires
 answer-requires c =
     let a = c.args in
     let p = c.requires in
     let o = c.own_of.ensures in
-    (record { passes = p.passes; read = c.masks_in-masks.ensures ∙ sym (masks_in a.s.now); worked = c.work_out.ensures }, (p, omega (arith, c.if-own_of-ge-LISTENING.false)))
+    (record { passes = p.passes; read = c.graph_in-graph.ensures; worked = c.work_out.ensures }, (p, omega (arith, c.if-own_of-ge-LISTENING.false)))
 
 pub returns : goal.returns
 returns c =

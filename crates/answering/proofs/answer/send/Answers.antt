@@ -14,7 +14,7 @@ pub hold_vote-requires : goal.hold_vote-requires
 hold_vote-requires c =
     let a = c.args in
     let p = c.requires in
-    (p.0, (p.1.most, p.1.lowest))
+    (p.0, p.1.lowest)
 
 pub sent-requires : goal.sent-requires
 sent-requires c =

@@ -1,4 +1,9 @@
-use mathlib.Core.Path.{◌∙◌}
+use mathlib.Core.Path.{ap, subst, ◌∙◌}
+use Prim.Native.Nat.{◌≤◌}
+use Rattle.graph.specs.declared.Graph.{Graph}
+use Rattle.graph.specs.Limits.{mask_bits}
+use Rattle.graph.specs.LearnerGraph.{is_quorum}
+use Rattle.graph.specs.Memory.{view_of}
 use Rattle.base.specs.Sets.{has}
 use Rattle.graph.proofs.LearnerGraph.{quorum_cong}
 use Rattle.round.specs.Holdings.{graph_of}
@@ -14,19 +19,20 @@ voters-set-requires c =
     let start = c in
     let a = start.args in
     let r = round_in a.s.now in
-    let x = word_notes a.words.now in
-    let y = byte_notes a.octets.now in
+    let x = word_notes a.notes.now.words in
+    let y = byte_notes a.notes.now.octets in
     let g = start.requires.0 in
     let walk = c.peers_of-walk.result in
     let cover = covers_voters r x y g.few g.marked a.a a.x walk.low walk.high (λ q h f b. c.peers_of-walk.ensures q h (c.votes_in.ensures q f) b) in
-    (record { long = g.graphed.long; lent = g.lent }, (start.requires.1, record { few = g.few; covers = cover }))
+    (g.graphed.long, (start.requires.1, record { few = g.few; covers = cover }))
 
 pub returns : goal.returns
 returns c =
     let start = c in
     let a = start.args in
     let r = round_in a.s.now in
-    let x = word_notes a.words.now in
-    let y = byte_notes a.octets.now in
-    let few = start.requires.0.graphed.acceptors in
-    c.quorum_of.ensures ∙ quorum_cong (graph_of r) a.a (has c.voters-set.result) (voters_for r x y a.a a.x) (λ p h. c.voters-set.ensures p (omega arith))
+    let x = word_notes a.notes.now.words in
+    let y = byte_notes a.notes.now.octets in
+    let g = start.requires.0.graphed in
+    let few = subst (λ (h : Graph). h.acceptors ≤ mask_bits) g.same g.acceptors in
+    c.is_quorum.ensures ∙ ap (λ (h : Graph). is_quorum (view_of h) a.a (has c.voters-set.result)) g.same ∙ quorum_cong (graph_of r) a.a (has c.voters-set.result) (voters_for r x y a.a a.x) (λ p h. c.voters-set.ensures p (omega arith))

@@ -1,17 +1,16 @@
 use mathlib.Core.Path.{◌≡◌}
-use Prim.Native.Nat.{◌-◌}
+use Prim.Native.Nat.{ℕ}
 use lib.ListN.{get_or}
+use Rattle.std.proofs.Common.{Option}
+use Rattle.places.proofs.Going.{coming, run}
 use Rattle.roundbytes.specs.Layout.{round_in}
 use Rattle.notes.specs.Inside.Layout.{word_notes, byte_notes}
-use Rattle.places.proofs.Walks.{Left}
-use Rattle.deciding.specs.Inside.Deciding.{is_deciding, least_of}
+use Rattle.deciding.specs.Inside.Deciding.{is_deciding, lowered, least_of}
 use Rattle.deciding.proofs.report.least_deciding.Given as goal
 
--- the least is that of the places below j
+-- lowered by the ballots to come, the least is that of the n places
 abbrev pub invariant-loop-j : goal.invariant-loop-j
 invariant-loop-j l =
-    Left l.n l.initial.rest.low l.initial.rest.high l.rest.low l.rest.high l.j
-    × (l.least ≡ least_of (is_deciding (round_in l.s) (word_notes l.words) (byte_notes l.octets) l.a l.other l.v) (λ j. get_or (word_notes l.words).tops j 0) l.j)
-
-abbrev pub decreases-loop-j : goal.decreases-loop-j
-decreases-loop-j l = l.n - l.j
+    let test = is_deciding (round_in l.s) (word_notes l.notes.words) (byte_notes l.notes.octets) l.a l.but in
+    let top : ℕ → ℕ = λ j. get_or (word_notes l.notes.words).tops j 0 in
+    run (λ (p : Option ℕ) (j : ℕ). lowered p (test j) (top j)) l.least (coming l.j-iterator) ≡ least_of test top l.n

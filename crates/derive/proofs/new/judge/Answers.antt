@@ -1,4 +1,4 @@
-use mathlib.Core.Path.{ap, subst, ◌∙◌}
+use mathlib.Core.Path.{◌≡◌, ap, subst, ◌∙◌}
 use mathlib.Core.Bool.{◌&&◌}
 use mathlib.Core.List.{List}
 use Prim.Native.Nat.{ℕ, ◌≤◌, ◌<◌}
@@ -7,7 +7,10 @@ use lib.Dec.{eqb}
 use lib.ListN.{get_or}
 use Rattle.base.specs.Tests.{◌∈◌, any, below}
 use Rattle.base.proofs.Tests.{entry_below}
+use Rattle.base.specs.Sets.{has}
+use Rattle.graph.specs.declared.Graph.{Graph}
 use Rattle.graph.specs.LearnerGraph.{is_quorum}
+use Rattle.graph.specs.Memory.{view_of}
 use Rattle.protocol.proofs.Growth.{length_tabulate}
 use Rattle.round.specs.Limits.{max_held}
 use Rattle.round.specs.Holdings.{graph_of, named, record_at, table_of}
@@ -28,13 +31,13 @@ pub under-u-requires : goal.under-u-requires
 under-u-requires c =
     let a = c.args in
     let pre = c.requires in
-    (pre.given.graphed.long, (pre.given.lent.word_room, referred a.places.now (round_in a.s.now).held pre.given.fit.held pre.earlier))
+    (pre.given.graphed.long, referred a.places.now (round_in a.s.now).held pre.given.fit.held pre.earlier)
 
 pub name_of-name-requires : goal.name_of-name-requires
 name_of-name-requires c =
     let pre = c.requires in
     let e = c.held_of-held.ensures.0 in
-    (pre.given.graphed.long, (pre.given.lent.word_room, record { few = omega (arith, e, pre.given.fit.held); indexed = λ j l. pre.complete.ids j (omega (arith, e, l)) }))
+    (pre.given.graphed.long, record { few = omega (arith, e, pre.given.fit.held); indexed = λ j l. pre.complete.ids j (omega (arith, e, l)) })
 
 pub is_crowded-crowded-requires : goal.is_crowded-crowded-requires
 is_crowded-crowded-requires c =
@@ -45,15 +48,15 @@ is_crowded-crowded-requires c =
     let n = c.held_of-held in
     let e = n.ensures.0 in
     let few = pre.given.fit.held in
-    (record { long = pre.given.graphed.long; lent = pre.given.lent }, record { few = omega (arith, e, few); covers = λ j l. covers_crowd r.held r (word_notes a.words.now) (byte_notes a.octets.now) few pre.complete.marked u.low u.high c.name_of-name.result u.ballot c.peers_of-peers.result.low c.peers_of-peers.result.high c.peers_of-peers.ensures j (omega (arith, e, l)) })
+    (pre.given.graphed.long, record { few = omega (arith, e, few); covers = λ j l. covers_crowd r.held r (word_notes a.notes.now.words) (byte_notes a.notes.now.octets) few pre.complete.marked u.set.low u.set.high c.name_of-name.result u.ballot c.peers_of-peers.result.low c.peers_of-peers.result.high c.peers_of-peers.ensures j (omega (arith, e, l)) })
 
 pub returns-then-u : goal.returns-then-u
 returns-then-u c =
     let a = c.args in
     let pre = c.requires in
     let r = round_in a.s.now in
-    let x = word_notes a.words.now in
-    let y = byte_notes a.octets.now in
+    let x = word_notes a.notes.now.words in
+    let y = byte_notes a.notes.now.octets in
     let under = c.under-u in
     let u = under.result in
     let name = c.name_of-name in
@@ -62,8 +65,8 @@ returns-then-u c =
     λ signer.
     let ca = candidate r r.held r.held pre.given.fit (omega arith) y pre.complete.named a.id.now name.result a.previous a.places.now (subst (λ (k : ℕ). Lowest r k a.id.now name.result) n.ensures.0 name.ensures) pre.linked pre.earlier in
     first_judged (graph_of r) (table_of r) r x y a.places.now pre.complete.known a.id.now signer (named r a.previous) r.held (length_tabulate r.held (record_at r)) few ca.earlier
-    u.low u.high u.ballot u.offered under.ensures name.result (get_or y.names a.previous 0) ca c.is_crowded-crowded.result
-    (c.is_crowded-crowded.ensures ∙ ap (λ (k : ℕ). any (is_crowding r x y u.low u.high name.result u.ballot) (below k)) n.ensures.0) c.if-u.true
+    u.set.low u.set.high u.ballot u.offered under.ensures name.result (get_or y.names a.previous 0) ca c.is_crowded-crowded.result
+    (c.is_crowded-crowded.ensures ∙ ap (λ (k : ℕ). any (is_crowding r x y u.set.low u.set.high name.result u.ballot) (below k)) n.ensures.0) c.if-u.true
 
 pub learners_for-learned-requires : goal.learners_for-learned-requires
 learners_for-learned-requires c =
@@ -74,33 +77,34 @@ learners_for-learned-requires c =
     let e = c.held_of-held.ensures.0 in
     let few = pre.given.fit.held in
     let b = c.backers_of-backers in
-    (pre.given.graphed, (record { asked = record { long = pre.given.graphed.long; lent = pre.given.lent }; few = omega (arith, e, few); backers = λ q j l. covers_backers r.held r (word_notes a.words.now) (byte_notes a.octets.now) few pre.complete.marked u.low u.high u.ballot b.result.low b.result.high b.ensures q j (omega (arith, e, l)) }, omega (arith, c.learners_of-l.ensures.0, pre.given.learners)))
+    (pre.given.graphed.acceptors, (record { long = pre.given.graphed.long; few = omega (arith, e, few); backers = λ q j l. covers_backers r.held r (word_notes a.notes.now.words) (byte_notes a.notes.now.octets) few pre.complete.marked u.set.low u.set.high u.ballot b.result.low b.result.high b.ensures q j (omega (arith, e, l)) }, omega (arith, c.learners_of-l.ensures.0, pre.given.learners)))
 
 pub is_repeated-repeated-requires : goal.is_repeated-repeated-requires
 is_repeated-repeated-requires c =
     let a = c.args in
     let pre = c.requires in
-    (pre.given.lent, referred a.places.now (round_in a.s.now).held pre.given.fit.held pre.earlier)
+    referred a.places.now (round_in a.s.now).held pre.given.fit.held pre.earlier
 
 pub returns : goal.returns
 returns c =
     let a = c.args in
     let pre = c.requires in
     let r = round_in a.s.now in
-    let x = word_notes a.words.now in
-    let y = byte_notes a.octets.now in
+    let x = word_notes a.notes.now.words in
+    let y = byte_notes a.notes.now.octets in
     let under = c.under-u in
     let u = under.result in
     let n = c.held_of-held in
     let l = c.learners_of-l in
     let mask = c.learners_for-learned in
-    let link = c.name_at-link.ensures ∙ ap (λ (k : ℕ). get_or y.names k 0) c.size.ensures.0 in
+    let link = c.name_at-link.ensures ∙ ap (λ (k : ℕ). get_or y.names k 0) c.from.ensures in
+    let learned = subst (λ (g : Graph). (q : ℕ) → has mask.result q ≡ any (λ d. is_quorum (view_of g) d (backed_by r x y n.result u.set.low u.set.high u.ballot d) && eqb d q) (below l.result)) pre.given.graphed.same mask.ensures in
     let few = pre.given.fit.held in
     let size = length_tabulate r.held (record_at r) in
     λ signer.
     second_judged (graph_of r) (table_of r) r x y a.places.now pre.complete.known a.id.now signer (named r a.previous) r.held size few (λ j m. let e = pre.earlier j m in omega (arith, e, size))
-    u.low u.high u.ballot u.offered under.ensures mask.result
-    (λ q. mask.ensures q ∙ ap (λ (k : ℕ). any (λ d. is_quorum (graph_of r) d (backed_by r x y k u.low u.high u.ballot d) && eqb d q) (below l.result)) n.ensures.0
-    ∙ ap (λ (k : ℕ). any (λ d. is_quorum (graph_of r) d (backed_by r x y r.held u.low u.high u.ballot d) && eqb d q) (below k)) l.ensures.0) c.if-u.false
+    u.set.low u.set.high u.ballot u.offered under.ensures mask.result
+    (λ q. learned q ∙ ap (λ (k : ℕ). any (λ d. is_quorum (graph_of r) d (backed_by r x y k u.set.low u.set.high u.ballot d) && eqb d q) (below l.result)) n.ensures.0
+    ∙ ap (λ (k : ℕ). any (λ d. is_quorum (graph_of r) d (backed_by r x y r.held u.set.low u.set.high u.ballot d) && eqb d q) (below k)) l.ensures.0) c.if-u.false
     (get_or y.names a.previous 0) (previous_law r r.held few y pre.complete.named a.previous pre.linked) c.is_repeated-repeated.result
     (c.is_repeated-repeated.ensures ∙ ap (λ (k : ℕ). any (is_repeat x y k u.ballot mask.result) a.places.now) link)

@@ -1,7 +1,6 @@
-use mathlib.Core.Path.{◌≡◌, refl, subst, ◌∙◌}
+use mathlib.Core.Path.{◌≡◌, refl, subst}
 use Prim.Native.Nat.{ℕ, ◌+◌}
 use native.Mathlib.Omega.{arith}
-use lib.ListN.{length}
 use Rattle.roundbytes.specs.Layout.{round_in}
 use Rattle.notes.specs.Inside.Layout.{word_notes, byte_notes}
 use Rattle.derive.specs.Inside.Complete.{Extended}
@@ -14,7 +13,7 @@ held_of-n-requires c = c.requires.given.graphed.long
 pub loop-p-init : goal.loop-p-init
 loop-p-init c =
     let pre = c.requires in
-    (omega (arith, pre.within, c.held_of-n.ensures.0), (pre.given.lent, record { names = refl; idlow = refl; idhigh = refl; marked = pre.marked; known = λ named kn. kn }))
+    (omega (arith, pre.within, c.held_of-n.ensures.0), record { names = refl; idlow = refl; idhigh = refl; marked = pre.marked; known = λ named kn. kn })
 
 pub note_place-requires : goal.note_place-requires
 note_place-requires c =
@@ -23,36 +22,23 @@ note_place-requires c =
     let go = c.loop-p-test.true in
     let e = c.held_of-n.ensures.0 in (
       record {
-        given = record { graphed = given.graphed; learners = given.learners; fit = given.fit; lent = l.invariant.1.0 };
+        given = given;
         within = omega (arith, go, e);
-        marked = l.invariant.1.1.marked;
+        marked = l.invariant.1.marked;
       },
       omega (arith, go, e),
     )
-
-pub overflow_add-p : goal.overflow_add-p
-overflow_add-p c = omega (arith, c.loop-p-test.true, c.held_of-n.ensures.1)
-
-pub loop-p-smaller : goal.loop-p-smaller
-loop-p-smaller c = omega (arith, c.loop-p-test.true)
 
 pub loop-p-preserved : goal.loop-p-preserved
 loop-p-preserved c =
     let a = c.args in
     let l = c.loop-p in
     let one = c.note_place in
-    let wide : length one.new.words ≡ length l.words = one.auto.words in
-    let long : length one.new.octets ≡ length l.octets = one.auto.octets in (
-      omega (arith, c.loop-p-test.true),
-      (
-        record { word_room = wide ∙ l.invariant.1.0.word_room; octet_room = long ∙ l.invariant.1.0.octet_room },
-        then (round_in a.s.now) a.from l.p (l.p + 1) _ _ _ _ _ _ l.invariant.1.1 one.ensures,
-      ),
-    )
+    (omega (arith, c.loop-p-test.true), then (round_in a.s.now) a.from l.p (l.p + 1) _ _ _ _ _ _ l.invariant.1 one.ensures)
 
 pub returns : goal.returns
 returns c =
     let a = c.args in
     let l = c.loop-p in
     let e : l.p ≡ (round_in a.s.now).held = omega (arith, l.invariant.0, c.loop-p-test.false, c.held_of-n.ensures.0) in
-    subst (λ (k : ℕ). Extended (round_in a.s.now) a.from k (word_notes a.words.now) (word_notes l.words) (byte_notes a.octets.now) (byte_notes l.octets)) e l.invariant.1.1
+    subst (λ (k : ℕ). Extended (round_in a.s.now) a.from k (word_notes a.notes.now.words) (word_notes l.notes.words) (byte_notes a.notes.now.octets) (byte_notes l.notes.octets)) e l.invariant.1

@@ -1,7 +1,6 @@
-use mathlib.Core.Path.{◌≡◌, refl, sym, subst, transport, ◌∙◌}
+use mathlib.Core.Path.{◌≡◌, refl, sym, subst, transport}
 use Prim.Native.Nat.{ℕ, ◌+◌}
 use native.Mathlib.Omega.{arith}
-use lib.ListN.{length}
 use Rattle.round.specs.Holdings.{graph_of}
 use Rattle.roundbytes.specs.Layout.{round_in}
 use Rattle.notes.specs.Inside.Layout.{word_notes, byte_notes}
@@ -19,7 +18,7 @@ use Rattle.derive.proofs.pass.work_more.Goals as goal
 pub name_place-name-requires : goal.name_place-name-requires
 name_place-name-requires c =
     let pre = c.requires in
-    (record { long = pre.given.graphed.long; lent = pre.given.lent }, (omega (arith, pre.given.fit.held, pre.more), pre.complete.ids))
+    (pre.given.graphed.long, (omega (arith, pre.given.fit.held, pre.more), pre.complete.ids))
 
 pub extend-requires : goal.extend-requires
 extend-requires c =
@@ -27,14 +26,12 @@ extend-requires c =
     let pre = c.requires in
     let given = pre.given in
     let r = round_in a.s.now in
-    let x = word_notes a.words.now in
-    let y = byte_notes a.octets.now in
+    let x = word_notes a.notes.now.words in
+    let y = byte_notes a.notes.now.octets in
     let named = c.name_place-name in
-    let x' = word_notes named.new.words in
-    let wide : length named.new.words ≡ length a.words.now = named.auto.words in
-    let long : length named.new.octets ≡ length a.octets.now = named.auto.octets in
+    let x' = word_notes named.new.notes.words in
     record {
-      given = record { graphed = given.graphed; learners = given.learners; fit = given.fit; lent = record { word_room = wide ∙ given.lent.word_room; octet_room = long ∙ given.lent.octet_room } };
+      given = given;
       within = omega (arith, pre.more);
       marked = transport (λ i. Marks a.n r (sym named.ensures.rest i) (sym named.ensures.named i)) (marks_named a.n named.result r x y x'.idlow x'.idhigh pre.before pre.complete.marked);
     }
@@ -45,21 +42,14 @@ returns c =
     let pre = c.requires in
     let given = pre.given in
     let r = round_in a.s.now in
-    let x = word_notes a.words.now in
-    let y = byte_notes a.octets.now in
+    let x = word_notes a.notes.now.words in
+    let y = byte_notes a.notes.now.octets in
     let named = c.name_place-name in
     let more = c.extend in
-    let x' = word_notes named.new.words in
-    let y' = byte_notes named.new.octets in
-    let wide : length named.new.words ≡ length a.words.now = named.auto.words in
-    let long : length named.new.octets ≡ length a.octets.now = named.auto.octets in
-    let wider : length more.new.words ≡ length named.new.words = more.auto.words in
-    let longer : length more.new.octets ≡ length named.new.octets = more.auto.octets in
+    let x' = word_notes named.new.notes.words in
+    let y' = byte_notes named.new.notes.octets in
     let e : a.n + 1 ≡ r.held = omega (arith, pre.more) in
     let old : NamedAll r a.n x x y y = record { named = pre.complete.named; indexed = pre.complete.ids; words = refl; octets = refl } in
-    let all = all_more r a.n named.result x x x' y y y' (omega (arith, given.fit.held, pre.more)) (byte_rooms a.octets.now given.lent.octet_room).names old named.ensures in
+    let all = all_more r a.n named.result x x x' y y y' (omega (arith, given.fit.held, pre.more)) (byte_rooms a.notes.now.octets a.notes.now.octet_room).names old named.ensures in
     let known = transport (λ i. AllNoted (graph_of r) (table_to r a.n) r (sym all.words i) (sym all.octets i)) (known_renamed (graph_of r) (table_to r a.n) r x y x'.idlow x'.idhigh y'.names pre.complete.known) in
-    record {
-      lent = record { word_room = wider ∙ wide ∙ given.lent.word_room; octet_room = longer ∙ long ∙ given.lent.octet_room };
-      complete = all_complete r a.n x' (word_notes more.new.words) y' (byte_notes more.new.octets) (subst (λ (n : ℕ). Named r n y') e all.named) (subst (λ (n : ℕ). IdsIndexed r n x') e all.indexed) known more.ensures;
-    }
+    all_complete r a.n x' (word_notes more.new.notes.words) y' (byte_notes more.new.notes.octets) (subst (λ (n : ℕ). Named r n y') e all.named) (subst (λ (n : ℕ). IdsIndexed r n x') e all.indexed) known more.ensures

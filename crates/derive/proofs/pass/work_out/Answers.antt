@@ -1,7 +1,6 @@
-use mathlib.Core.Path.{◌≡◌, subst, ◌∙◌}
+use mathlib.Core.Path.{subst}
 use Prim.Native.Nat.{ℕ}
 use native.Mathlib.Omega.{arith}
-use lib.ListN.{length}
 use Rattle.protocol.specs.Table.{tabulate}
 use Rattle.round.specs.Holdings.{graph_of}
 use Rattle.roundbytes.specs.Layout.{round_in}
@@ -17,12 +16,10 @@ extend-requires c =
     let a = c.args in
     let given = c.requires in
     let named = c.name_places in
-    let wide : length named.new.words ≡ length a.words.now = named.auto.words in
-    let long : length named.new.octets ≡ length a.octets.now = named.auto.octets in
     record {
-      given = record { graphed = given.graphed; learners = given.learners; fit = given.fit; lent = record { word_room = wide ∙ given.lent.word_room; octet_room = long ∙ given.lent.octet_room } };
+      given = given;
       within = omega arith;
-      marked = marks_none (round_in a.s.now) (word_notes named.new.words) (byte_notes named.new.octets);
+      marked = marks_none (round_in a.s.now) (word_notes named.new.notes.words) (byte_notes named.new.notes.octets);
     }
 
 pub returns : goal.returns
@@ -34,13 +31,6 @@ returns c =
     let named = c.name_places in
     let more = c.extend in
     let e = c.held_of.ensures.0 in
-    let x = word_notes named.new.words in
-    let y = byte_notes named.new.octets in
-    let wide : length named.new.words ≡ length a.words.now = named.auto.words in
-    let long : length named.new.octets ≡ length a.octets.now = named.auto.octets in
-    let wider : length more.new.words ≡ length named.new.words = more.auto.words in
-    let longer : length more.new.octets ≡ length named.new.octets = more.auto.octets in
-    record {
-      lent = record { word_room = wider ∙ wide ∙ given.lent.word_room; octet_room = longer ∙ long ∙ given.lent.octet_room };
-      complete = all_complete r 0 x (word_notes more.new.words) y (byte_notes more.new.octets) (subst (λ (n : ℕ). Named r n y) e named.ensures.named) (subst (λ (n : ℕ). IdsIndexed r n x) e named.ensures.indexed) (known_none (graph_of r) r x y) more.ensures;
-    }
+    let x = word_notes named.new.notes.words in
+    let y = byte_notes named.new.notes.octets in
+    all_complete r 0 x (word_notes more.new.notes.words) y (byte_notes more.new.notes.octets) (subst (λ (n : ℕ). Named r n y) e named.ensures.named) (subst (λ (n : ℕ). IdsIndexed r n x) e named.ensures.indexed) (known_none (graph_of r) r x y) more.ensures

@@ -1,25 +1,19 @@
-use Rattle.std.proofs.Common.{◌≡◌, ℕ, get_or, sym, refl, ap, ◌∙◌, add-one, arith}
-use Rattle.digest.specs.Constants.{K, constants}
+use Rattle.std.proofs.Common.{ℕ, [], ◌∷◌, length, sym, refl, ap, ◌∙◌, add-one, length-append, rules}
+use Rattle.std.proofs.lemmas.Slice.Zip.{zip_turn}
+use Rattle.digest.specs.Constants.{constants}
 use Rattle.digest.specs.Sha256.{round, rounds}
 use Rattle.digest.proofs.block.after_rounds.Goals as goal
 
-pub loop-t-init : goal.loop-t-init
+pub loop-k-init : goal.loop-k-init
 unfolding rounds
-loop-t-init c = (omega arith, refl)
+loop-k-init c = refl
 
-pub loop-t-preserved : goal.loop-t-preserved
+pub loop-k-preserved : goal.loop-k-preserved
 unfolding rounds constants
-loop-t-preserved c =
-    let t = c.loop-t.t in
+loop-k-preserved c =
     let w = c.args.w.now in
-    let s = c.args.s0 in (
-      omega arith,
-      c.after_round-s.ensures ∙ ap (round (K t) (get_or w t 0)) c.loop-t.invariant.1 ∙ sym (ap (λ (n : ℕ). rounds n w s) (add-one t)),
-    )
-
-pub returns : goal.returns
-returns c =
-    let l = c.loop-t in
-    let a = c.args in
-    let e : l.t ≡ 64 = omega arith in
-    l.invariant.1 ∙ ap (λ (n : ℕ). rounds n a.w.now a.s0) e
+    let l = c.loop-k in
+    let i = length l.yielded in
+    let turn = zip_turn constants w l.yielded c.into_iter-k-iterator.result l.k-iterator c.next.new.self c.next.result (search rules) (search rules) l.yielded_by (c.in-Some.k, c.in-Some.word) c.in-Some.is c.next.ensures.steps in
+    let more = length-append l.yielded ((c.in-Some.k, c.in-Some.word) ∷ []) ∙ add-one i in
+    c.after_round-s.ensures ∙ (λ i. round (turn.2 0 i) (turn.3 0 i) (l.invariant i)) ∙ sym (ap (λ (n : ℕ). rounds n w c.args.s0) more)

@@ -21,10 +21,3 @@ loop-t-preserved c =
             ∙ sym (ap (λ (n : ℕ). words n b) (add-one l.t)),
       ),
     )
-
-pub returns : goal.returns
-returns c =
-    let l = c.loop-t in
-    let b = c.args.block.now in
-    let e : l.t ≡ 16 = omega arith in
-    ap (λ (n : ℕ). take n l.w) (sym e) ∙ l.invariant.1.1 ∙ ap (λ (n : ℕ). words n b) e

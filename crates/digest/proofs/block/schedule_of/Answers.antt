@@ -15,7 +15,6 @@ loop-u-preserved c =
     let l = c.loop-u in
     let p = words 16 c.args.block.now in
     let g = extended (l.u - 16) p in
-    let x = c.wrapping_add_u32.result in
     let low : 16 ≤ l.u = l.invariant.0 in
     let high : l.u < 64 = c.loop-u-test.true in
     let size : length l.w ≡ 64 = l.invariant.1.1.0 in
@@ -27,9 +26,9 @@ loop-u-preserved c =
     let back7 = back 7 (omega arith) (omega arith) in
     let back15 = back 15 (omega arith) (omega arith) in
     let back16 = back 16 (omega arith) (omega arith) in
+    let x = c.small_sigma1.result ⊞ get_or l.w (l.u - 7) 0 ⊞ c.small_sigma0.result ⊞ get_or l.w (l.u - 16) 0 in
     let v : x ≡ next_word g l.u =
-    c.wrapping_add_u32.ensures.value
-    ∙ ap₂ ◌⊞◌ (c.wrapping_add_u32-y.ensures.value ∙ ap₂ ◌⊞◌ (c.wrapping_add_u32-x.ensures.value ∙ ap₂ ◌⊞◌ (c.small_sigma1.ensures ∙ ap σ1 back2) back7) (c.small_sigma0.ensures ∙ ap σ0 back15)) back16
+    ap₂ ◌⊞◌ (ap₂ ◌⊞◌ (ap₂ ◌⊞◌ (c.small_sigma1.ensures ∙ ap σ1 back2) back7) (c.small_sigma0.ensures ∙ ap σ0 back15)) back16
     in
     let m : 16 + (l.u - 16) ≡ l.u = omega arith in
     let n : l.u + 1 - 16 ≡ suc (l.u - 16) = omega arith in (

@@ -1,7 +1,9 @@
 use native.Mathlib.Omega.{arith}
+use Rattle.round.specs.Outcomes.{Outcome}
+use borrow.Author.Rules.{rules}
+use Rattle.std.specs.Prelude.{Err}
 use Rattle.meaning.proofs.Giving.{given_of}
-use mathlib.Core.Path.{◌∙◌, sym, refl}
-use Rattle.roundbytes.proofs.Fields.{masks_in}
+use mathlib.Core.Path.{◌≡◌, ◌∙◌, ap, sym, refl}
 use Rattle.roundbytes.specs.Layout.{round_in}
 use Rattle.admission.specs.Inside.Votes.{record_of}
 use Rattle.judging.specs.Inside.Turning.{sound_row}
@@ -9,41 +11,38 @@ use Rattle.round.specs.Rows.{message_of}
 use Rattle.engine.proofs.Taking.{taken_refused, taken_entered}
 use Rattle.digest.specs.Sha256.{sha256}
 use Rattle.answering.specs.Inside.Giving.{left}
-use Rattle.round.specs.declared.Outcome.TheVariants.{Refused}
-use Rattle.judging.proofs.Ordered.{row_applies, row_clear}
+use Rattle.order.specs.Inside.Rows.{row_of}
 use Rattle.judging.proofs.Voting.{sound_free}
 use Rattle.engine.specs.Inside.Entering.{Enterable}
 use Rattle.base.specs.Bytes.{Octets}
-use Rattle.engine.proofs.Entering.{vote_storable, answerable, masks_then, begun_then, entered_gives}
+use Rattle.engine.proofs.Entering.{vote_storable, answerable, graph_then, begun_then, entered_gives}
 use Rattle.answering.proofs.Replying.{kept_on}
 use Rattle.engine.proofs.settle.settle.Goals as goal
-
-pub masks_in-masks-requires : goal.masks_in-masks-requires
-masks_in-masks-requires c = let n = c.requires.takes.passes.long in omega arith
 
 pub work_out-requires : goal.work_out-requires
 work_out-requires c =
     let can = c.requires in
     let s = c.args.s.now in
-    given_of s _ _ _ can.takes.passes.long (c.masks_in-masks.ensures ∙ sym (masks_in s)) can.takes.passes.fit (record { word_room = refl; octet_room = refl })
+    given_of s _ can.takes.passes.long c.graph_in-graph.ensures can.takes.passes.fit
 
-pub sound_row-sound-requires : goal.sound_row-sound-requires
-sound_row-sound-requires c =
+pub sound_row-requires : goal.sound_row-requires
+sound_row-requires c =
     let can = c.requires in
     let s = c.args.s.now in
-    (record { passes = can.takes.passes; read = c.masks_in-masks.ensures ∙ sym (masks_in s); worked = c.work_out.ensures }, (can.refers, can.found))
+    (record { passes = can.takes.passes; read = c.graph_in-graph.ensures; worked = c.work_out.ensures }, (can.refers, can.found))
 
-pub returns-in-Applies : goal.returns-in-Applies
-returns-in-Applies c =
+pub returns-in_err-sound_row : goal.returns-in_err-sound_row
+returns-in_err-sound_row c =
     let a = c.args in
     let can = c.requires in
     let s = a.s.now in
     let r = round_in s in
     let i = a.id.now in
-    let h = record_of r i a.vote in
+    let h = record_of r i a.vote.now in
     let row = sound_row r i (message_of r h) in
-    let e = c.in-Applies.e in
-    record { given = taken_refused sha256 r i h row (left (Refused e) s) a.reply.now e (row_applies row e (sym c.sound_row-sound.ensures ∙ c.in-Applies.is)) refl; kept = (refl, refl) }
+    let e = c.in_err-sound_row.field-0.0 in
+    let d : c.from_residual.result ≡ Err e = search rules in
+    record { given = taken_refused sha256 r i h row (left c.from_residual.result s) a.reply.now e (sym c.sound_row.ensures ∙ ap row_of c.in_err-sound_row.was) (ap (λ (o : Outcome). left o s) d); kept = (refl, refl) }
 
 pub enter_vote-p-requires : goal.enter_vote-p-requires
 enter_vote-p-requires c =
@@ -52,9 +51,9 @@ enter_vote-p-requires c =
     let s = a.s.now in
     let r = round_in s in
     let i = a.id.now in
-    let h = record_of r i a.vote in
+    let h = record_of r i a.vote.now in
     let row = sound_row r i (message_of r h) in
-    let clear = row_clear row (sym c.sound_row-sound.ensures ∙ c.in_default.is) in
+    let clear = sym c.sound_row.ensures ∙ ap row_of c.in_ok-sound_row.was in
     (record { passes = can.takes.passes; id_bytes = can.takes.id_bytes; found = can.found; free = sound_free r i (message_of r h) clear }, can.refers)
 
 pub process-requires : goal.process-requires
@@ -64,17 +63,17 @@ process-requires c =
     let s = a.s.now in
     let r = round_in s in
     let i = a.id.now in
-    let h = record_of r i a.vote in
+    let h = record_of r i a.vote.now in
     let row = sound_row r i (message_of r h) in
-    let clear = row_clear row (sym c.sound_row-sound.ensures ∙ c.in_default.is) in
+    let clear = sym c.sound_row.ensures ∙ ap row_of c.in_ok-sound_row.was in
     let may : Enterable s i a.found = record { passes = can.takes.passes; id_bytes = can.takes.id_bytes; found = can.found; free = sound_free r i (message_of r h) clear } in
     let octets : Octets s = λ j. omega (arith, c.slice_known-1.given j) in
-    let store = vote_storable r i a.vote can.takes.id_bytes (λ j. omega (arith, c.type_inv.id j)) can.refers in
+    let store = vote_storable r i a.vote.now can.takes.id_bytes (λ j. omega (arith, c.type_inv.id j)) can.refers in
     let e = c.enter_vote-p in (
       answerable s octets i a.found may h store e.new.s e.result e.ensures a.reply.now can.takes.long,
       (
-        masks_then s octets i a.found may h store e.new.s e.result e.ensures c.masks_in-masks.result (c.masks_in-masks.ensures ∙ sym (masks_in s)),
-        begun_then s octets i a.found may h store e.new.s e.result e.ensures c.held_of-n.result c.held_of-n.ensures.0 _ _ c.work_out.ensures,
+        graph_then s octets i a.found may h store e.new.s e.result e.ensures c.graph_in-graph.result c.graph_in-graph.ensures,
+        begun_then s octets i a.found may h store e.new.s e.result e.ensures c.held_of-n.result c.held_of-n.ensures.0 _ c.work_out.ensures,
       ),
     )
 
@@ -85,12 +84,12 @@ returns c =
     let s = a.s.now in
     let r = round_in s in
     let i = a.id.now in
-    let h = record_of r i a.vote in
+    let h = record_of r i a.vote.now in
     let row = sound_row r i (message_of r h) in
-    let clear = row_clear row (sym c.sound_row-sound.ensures ∙ c.in_default.is) in
+    let clear = sym c.sound_row.ensures ∙ ap row_of c.in_ok-sound_row.was in
     let may : Enterable s i a.found = record { passes = can.takes.passes; id_bytes = can.takes.id_bytes; found = can.found; free = sound_free r i (message_of r h) clear } in
     let octets : Octets s = λ j. omega (arith, c.slice_known-1.given j) in
-    let store = vote_storable r i a.vote can.takes.id_bytes (λ j. omega (arith, c.type_inv.id j)) can.refers in
+    let store = vote_storable r i a.vote.now can.takes.id_bytes (λ j. omega (arith, c.type_inv.id j)) can.refers in
     let e = c.enter_vote-p in
     let x = c.process in record {
       given = taken_entered sha256 r i h row (left x.result x.new.s) a.reply.now x.new.reply clear

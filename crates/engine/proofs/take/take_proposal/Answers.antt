@@ -2,13 +2,13 @@ use mathlib.Core.Path.{◌∙◌, sym, refl, ap, ◌≡◌, subst}
 use mathlib.Core.Bool.{false, Bool, not}
 use lib.Dec.{T}
 use native.Mathlib.Omega.{arith}
+use Rattle.std.specs.Prelude.{Err}
 use Rattle.roundbytes.specs.Layout.{round_in}
 use Rattle.protocol.specs.Table.{offers}
 use Rattle.round.specs.Rows.{first_of, proposal_rows, other_round, is_known_id, full, placed}
 use Rattle.engine.proofs.Taking.{taken_refused, proposal_row, three_other, three_known, three_full, taken_entered, three_none}
 use Rattle.digest.specs.Sha256.{sha256}
 use Rattle.answering.specs.Inside.Giving.{left}
-use Rattle.round.specs.declared.Outcome.TheVariants.{Refused}
 use Rattle.base.specs.declared.refusal.Refusal.TheVariants.{OtherRound, Known, Full}
 use Rattle.judging.proofs.Voting.{stands}
 use Rattle.admission.proofs.Finding.{found_inside}
@@ -34,7 +34,7 @@ returns-then-of_another c =
     let o = other_round r a.m.house a.m.bay in
     let k = is_known_id r i in
     let f = full r i in
-    record { given = taken_refused sha256 r i h rows (left (Refused OtherRound) s) a.reply.now OtherRound (proposal_row r i a.m ∙ three_other o k f (sym c.of_another.ensures ∙ c.if-of_another.true)) refl; kept = (refl, refl) }
+    record { given = taken_refused sha256 r i h rows (left (Err OtherRound) s) a.reply.now OtherRound (proposal_row r i a.m ∙ three_other o k f (sym c.of_another.ensures ∙ c.if-of_another.true)) refl; kept = (refl, refl) }
 
 pub place_of-found-requires : goal.place_of-found-requires
 place_of-found-requires c = (stands c.args.s.now c.requires.passes, c.requires.id_bytes)
@@ -57,7 +57,7 @@ returns-then-is_known c =
     let k = is_known_id r i in
     let f = full r i in
     let known = c.is_known.ensures ∙ ap (placed (is_known r)) c.place_of-found.ensures in
-    record { given = taken_refused sha256 r i h rows (left (Refused Known) s) a.reply.now Known (proposal_row r i a.m ∙ three_known o k f (sym c.of_another.ensures ∙ c.if-of_another.false) (sym known ∙ c.if-is_known.true)) refl; kept = (refl, refl) }
+    record { given = taken_refused sha256 r i h rows (left (Err Known) s) a.reply.now Known (proposal_row r i a.m ∙ three_known o k f (sym c.of_another.ensures ∙ c.if-of_another.false) (sym known ∙ c.if-is_known.true)) refl; kept = (refl, refl) }
 
 pub lacks_room-requires : goal.lacks_room-requires
 lacks_room-requires c =
@@ -77,7 +77,7 @@ returns-then-lacks_room c =
     let k = is_known_id r i in
     let f = full r i in
     let known = c.is_known.ensures ∙ ap (placed (is_known r)) c.place_of-found.ensures in record {
-      given = taken_refused sha256 r i h rows (left (Refused Full) s) a.reply.now Full
+      given = taken_refused sha256 r i h rows (left (Err Full) s) a.reply.now Full
           (proposal_row r i a.m ∙ three_full o k f (sym c.of_another.ensures ∙ c.if-of_another.false) (sym known ∙ c.if-is_known.false) (sym (c.lacks_room.ensures i c.place_of-found.ensures) ∙ c.if-lacks_room.true)) refl;
       kept = (refl, refl);
     }

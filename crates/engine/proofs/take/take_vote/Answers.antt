@@ -1,14 +1,16 @@
-use mathlib.Core.Path.{refl, sym, ◌∙◌}
+use mathlib.Core.Path.{◌≡◌, refl, ap, sym, ◌∙◌}
 use native.Mathlib.Omega.{arith}
-use Rattle.judging.proofs.Voting.{stands, record_read, rows, by_head, listed, by_chain, chains, refers, referring, voted, by_rest}
+use Rattle.round.specs.Outcomes.{Outcome}
+use borrow.Author.Rules.{rules}
+use Rattle.std.specs.Prelude.{Err}
+use Rattle.judging.proofs.Voting.{stands, record_read, rows, by_head, listed, by_chain, refers, referring, voted, by_rest}
 use Rattle.admission.proofs.Finding.{found_inside}
 use Rattle.roundbytes.specs.Layout.{round_in}
 use Rattle.engine.proofs.Taking.{taken_refused, taken_settled}
 use Rattle.digest.specs.Sha256.{sha256}
 use Rattle.answering.specs.Inside.Giving.{left}
-use Rattle.round.specs.declared.Outcome.TheVariants.{Refused}
 use Rattle.round.proofs.Fitting.{fits_out}
-use Rattle.judging.proofs.Ordered.{row_clear}
+use Rattle.order.specs.Inside.Rows.{row_of}
 use Rattle.round.specs.Rows.{previous_id, reference_ids}
 use Rattle.admission.specs.Inside.Votes.{record_of}
 use Rattle.engine.proofs.take.take_vote.Goals as goal
@@ -21,8 +23,8 @@ head_row-requires c =
     let a = c.args in
     (stands a.s.now c.requires.0.passes, found_inside (round_in a.s.now) a.id.now c.place_of-found.result c.place_of-found.ensures)
 
-pub returns-in-Applies : goal.returns-in-Applies
-returns-in-Applies c =
+pub returns-in_err-head_row : goal.returns-in_err-head_row
+returns-in_err-head_row c =
     let a = c.args in
     let can = c.requires.0 in
     let s = a.s.now in
@@ -32,17 +34,18 @@ returns-in-Applies c =
     let found = c.place_of-found.ensures in
     let y = c.head_row in
     let told = y.ensures i found in
-    let e = c.in-Applies.e in
-    record { given = taken_refused sha256 r i (record_read r i b a.m) (rows r i b a.m) (left (Refused e) s) a.reply.now e (by_head r i b a.m y.result told e c.in-Applies.is) refl; kept = (refl, refl) }
+    let e = c.in_err-head_row.field-0.0 in
+    let d : c.from_residual.result ≡ Err e = search rules in
+    record { given = taken_refused sha256 r i (record_read r i b a.m) (rows r i b a.m) (left c.from_residual.result s) a.reply.now e (by_head r i b a.m y.result told e c.in_err-head_row.was) (ap (λ (o : Outcome). left o s) d); kept = (refl, refl) }
 
-pub chain_row-chained-requires : goal.chain_row-chained-requires
-chain_row-chained-requires c =
+pub chain_row-requires : goal.chain_row-requires
+chain_row-requires c =
     let a = c.args in
     let p = c.requires in
     (stands a.s.now p.0.passes, listed a.bytes.now a.m p.1)
 
-pub returns-in-Applies-row : goal.returns-in-Applies-row
-returns-in-Applies-row c =
+pub returns-in_err-vote : goal.returns-in_err-vote
+returns-in_err-vote c =
     let a = c.args in
     let can = c.requires.0 in
     let s = a.s.now in
@@ -52,10 +55,11 @@ returns-in-Applies-row c =
     let found = c.place_of-found.ensures in
     let y = c.head_row in
     let told = y.ensures i found in
-    let z = c.chain_row-chained in
-    let e = c.in-Applies-row.e in record {
-      given = taken_refused sha256 r i (record_read r i b a.m) (rows r i b a.m) (left (Refused e) s) a.reply.now e
-          (by_chain r i b a.m y.result told c.in_default.is z.result.row z.ensures.ruled e c.in-Applies-row.is) refl;
+    let z = c.chain_row in
+    let e = c.in_err-vote.field-0.0 in
+    let d : c.from_residual-in_err-vote.result ≡ Err e = search rules in record {
+      given = taken_refused sha256 r i (record_read r i b a.m) (rows r i b a.m) (left c.from_residual-in_err-vote.result s) a.reply.now e
+          (by_chain r i b a.m y.result told _ c.in_ok-head_row.was z.result z.ensures.ruled e c.in_err-vote.was) (ap (λ (o : Outcome). left o s) d);
       kept = (refl, refl);
     }
 
@@ -70,15 +74,16 @@ settle-requires c =
     let found = c.place_of-found.ensures in
     let y = c.head_row in
     let told = y.ensures i found in
-    let z = c.chain_row-chained in
-    let t = c.in_default-row.is in
+    let z = c.chain_row in
+    let t = c.in_ok-vote.was in
+    let vote = c.in_ok-vote.vote in
     let reads = c.requires.1 in
     let most = (fits_out r can.passes.fit).most in
-    let clear = row_clear (chains r i b a.m) (sym z.ensures.ruled ∙ t) in
-    let count = z.ensures.whole.0 in
+    let clear = sym z.ensures.ruled ∙ ap row_of t in
+    let count = c.in_ok-vote.ensures.counted in
     let least = refers b a.m reads in
     let few = (listed b a.m reads).most in
-    let to = referring r most a.m.signer (previous_id b a.m) (reference_ids b a.m) z.result.vote (z.ensures.resolved t) clear (omega arith) (omega arith) z.ensures.whole.1 in
+    let to = referring r most a.m.signer (previous_id b a.m) (reference_ids b a.m) vote c.in_ok-vote.ensures.resolved clear (omega arith) (omega arith) in
     record { takes = can; found = found; refers = to }
 
 pub returns : goal.returns
@@ -92,13 +97,14 @@ returns c =
     let found = c.place_of-found.ensures in
     let y = c.head_row in
     let told = y.ensures i found in
-    let z = c.chain_row-chained in
-    let t = c.in_default-row.is in
+    let z = c.chain_row in
+    let t = c.in_ok-vote.was in
+    let vote = c.in_ok-vote.vote in
     let most = (fits_out r can.passes.fit).most in
-    let clear = row_clear (chains r i b a.m) (sym z.ensures.ruled ∙ t) in
-    let same = voted r most a.m.signer (previous_id b a.m) (reference_ids b a.m) z.result.vote (z.ensures.resolved t) clear i in
+    let clear = sym z.ensures.ruled ∙ ap row_of t in
+    let same = voted r most a.m.signer (previous_id b a.m) (reference_ids b a.m) vote c.in_ok-vote.ensures.resolved clear i in
     let v = c.settle in record {
-      given = taken_settled sha256 r i b a.m (record_of r i z.result.vote) (left v.result v.new.s) a.reply.now v.new.reply same
-          (by_rest r i b a.m y.result told c.in_default.is z.result.row z.ensures.ruled t) v.ensures.given;
+      given = taken_settled sha256 r i b a.m (record_of r i vote) (left v.result v.new.s) a.reply.now v.new.reply same
+          (by_rest r i b a.m y.result told _ c.in_ok-head_row.was z.result z.ensures.ruled vote t) v.ensures.given;
       kept = v.ensures.kept;
     }

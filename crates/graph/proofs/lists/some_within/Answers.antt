@@ -1,19 +1,12 @@
-use mathlib.Core.Path.{refl, sym, ◌∙◌}
-use Rattle.base.proofs.Tests.{any_end, any_here, any_past}
+use mathlib.Core.Path.{◌∙◌}
+use Rattle.std.proofs.Common.{rules, tests}
+use Rattle.std.proofs.lemmas.Iterator.{YieldsList-from_slice}
+use Rattle.std.proofs.lemmas.Iterator.Search.{any_from_yields_List}
 use Rattle.graph.specs.Inside.Asking.{within}
+use Rattle.graph.proofs.Chains.{any_chain}
 use Rattle.graph.proofs.lists.some_within.Goals as goal
 
-pub loop-i-init : goal.loop-i-init
-loop-i-init c = refl
-
-pub returns-then-within : goal.returns-then-within
-returns-then-within c = let a = c.args in let l = c.loop-i in
-    sym (l.invariant ∙ any_here (within a.set) a.masks.now a.to l.i c.loop-i-test.true c.requires (sym c.within.ensures ∙ c.if-within.true))
-
-pub loop-i-preserved : goal.loop-i-preserved
-loop-i-preserved c = let a = c.args in let l = c.loop-i in
-    l.invariant ∙ any_past (within a.set) a.masks.now a.to l.i c.loop-i-test.true c.requires (sym c.within.ensures ∙ c.if-within.false)
-
 pub returns : goal.returns
-returns c = let a = c.args in let l = c.loop-i in
-    sym (l.invariant ∙ any_end (within a.set) a.masks.now a.to l.i c.loop-i-test.false)
+returns c =
+    any_from_yields_List (within c.args.set) _ _ _ c.any.ensures.ran (YieldsList-from_slice c.args.list.now cc) (λ x b q k. search (rules, tests))
+    ∙ any_chain (within c.args.set) c.args.list.now

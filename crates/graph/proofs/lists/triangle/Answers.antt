@@ -2,8 +2,5 @@ use Rattle.graph.proofs.Memory.{triangle_half, half_small}
 use native.Mathlib.Omega.{arith}
 use Rattle.graph.proofs.lists.triangle.Goals as goal
 
-pub overflow_mul-result : goal.overflow_mul-result
-overflow_mul-result c = let e = half_small c.args.b c.requires in omega arith
-
 pub returns : goal.returns
 returns c = let e = half_small c.args.b c.requires in let f = triangle_half c.args.b in (f, omega arith)

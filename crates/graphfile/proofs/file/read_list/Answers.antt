@@ -1,32 +1,28 @@
-use mathlib.Core.Path.{refl, sym, ◌∙◌, subst}
-use Prim.Native.Nat.{ℕ, ◌*◌}
+use mathlib.Core.Path.{◌≡◌, ap, sym, ◌∙◌}
 use mathlib.Core.List.{[]}
+use Prim.Native.Nat.{ℕ}
+use Rattle.std.proofs.Common.{Err}
 use Rattle.graph.specs.Limits.{max_masks}
 use Rattle.graphfile.specs.File.{Got, and_then, read_count, read_masks, read_list}
-use Rattle.graphfile.specs.Inside.Steps.{MasksHeld}
-use Rattle.graphfile.specs.declared.file.Field.{Field}
-use Rattle.graphfile.proofs.Reader.{value_no, count_is}
-use native.Mathlib.Omega.{arith}
+use Rattle.graphfile.specs.Arrays.{hold}
+use Rattle.graphfile.proofs.Reader.{value_no, promised_no, list_held}
+use borrow.Author.Rules.{rules}
 use Rattle.graphfile.proofs.file.read_list.Goals as goal
 
-pub overflow_add-at : goal.overflow_add-at
-overflow_add-at c = let q = count_is c.args.s.now c.args.low max_masks c.args.at c.in-Is.count (sym c.read_count.ensures ∙ c.in-Is.is) in omega arith
-
-pub read_masks-requires : goal.read_masks-requires
-read_masks-requires c = let a = c.args in let k = c.in-Is.count in
-    let (i, lo, hi, v, r) = count_is a.s.now a.low max_masks a.at k (sym c.read_count.ensures ∙ c.in-Is.is) in
-    let p = c.requires.0 in
-    (record { short = p.short; inside = omega arith; acceptors = p.acceptors }, (hi, omega arith))
-
-pub returns-in-Refused : goal.returns-in-Refused
+pub returns-in_err-count : goal.returns-in_err-count
 unfolding read_list
-returns-in-Refused c = let a = c.args in
-    subst (λ (g : Got ℕ). MasksHeld (and_then g (λ k at'. read_masks a.s.now a.acceptors k [] at')) (Field.Refused c.in-Refused.r) (max_masks * a.k) a.masks.now a.masks.now)
-    (sym (value_no (read_count a.s.now a.low max_masks a.at) c.in-Refused.r (sym c.read_count.ensures ∙ c.in-Refused.is))) refl
+returns-in_err-count c =
+    let a = c.args in
+    let g = a.graph.now in
+    let s = a.s.now in
+    let n = g.acceptors in
+    let x = c.in_err-count.field-0.0 in
+    let d : c.from_residual.result ≡ Err x = search rules in
+    let e = value_no (read_count s a.low max_masks a.at) x (sym c.read_count.ensures ∙ c.in_err-count.was) in
+    promised_no (hold a.k) g g (read_list s n a.low a.at) c.from_residual.result x d (ap (λ (y : Got ℕ). and_then y (λ k at'. read_masks s n k [] at')) e)
 
-pub returns-in-Is : goal.returns-in-Is
-unfolding read_list
-returns-in-Is c = let a = c.args in let k = c.in-Is.count in
-    let (i, lo, hi, v, r) = count_is a.s.now a.low max_masks a.at k (sym c.read_count.ensures ∙ c.in-Is.is) in
-    subst (λ (g : Got ℕ). MasksHeld (and_then g (λ k at'. read_masks a.s.now a.acceptors k [] at')) c.read_masks.result (max_masks * a.k) a.masks.now c.read_masks.new.masks)
-    (sym r) c.read_masks.ensures
+pub returns : goal.returns
+returns c =
+    let a = c.args in
+    let g = a.graph.now in
+    list_held a.s.now g.acceptors a.low a.at a.k g c.read_masks.new.masks c.read_masks.result c.in_ok-count.count (sym c.read_count.ensures ∙ c.in_ok-count.was) c.read_masks.ensures

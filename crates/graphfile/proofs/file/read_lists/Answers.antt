@@ -1,71 +1,45 @@
-use mathlib.Core.Path.{ap, ◌∙◌}
-use mathlib.Core.Bool.{Bool}
-use lib.ListN.{length}
-use borrow.Author.Tests.{eq-eqb, ne_eqb}
-use Rattle.base.specs.Tests.{pick}
-use Rattle.base.specs.declared.refusal.Refusal.TheVariants.{Length}
-use Rattle.graphfile.specs.File.{got, no}
-use Rattle.graphfile.specs.Arrays.{ListArrays}
-use Rattle.graphfile.proofs.Files.{quorums_no, quorums_end, rows_no, all_read, lists_no, lists_yes}
+use mathlib.Core.Path.{◌≡◌}
+use Rattle.std.proofs.Common.{Err}
+use Rattle.graphfile.proofs.Files.{quorums_no, quorums_end, quorums_kept, rows_no, lists_left, lists_whole}
 use borrow.Author.Rules.{rules}
+use native.Mathlib.Omega.{arith}
 use Rattle.graphfile.proofs.file.read_lists.Goals as goal
 
-pub returns-in-Refused : goal.returns-in-Refused
-returns-in-Refused c =
+pub returns-in_err-at : goal.returns-in_err-at
+returns-in_err-at c =
     let a = c.args in
-    let s = a.s.now in
-    let n = a.acceptors in
-    let l = a.learners in
-    let b : ListArrays = record { counts = a.counts.now; masks = a.masks.now } in
-    let long = c.requires.0.inside in
-    lists_no s n l long b c.in-Refused.r _ (quorums_no s n l long b c.read_quorums.result _ c.in-Refused.r c.read_quorums.ensures c.in-Refused.is)
+    let x = c.in_err-at.field-0.0 in
+    let d : c.from_residual.result ≡ Err x = search rules in
+    quorums_no a.s.now a.graph.now c.requires.0.inside c.read_quorums.result c.read_quorums.new.graph c.read_quorums.ensures c.from_residual.result x _ c.in_err-at.was d
 
 pub read_rows-requires : goal.read_rows-requires
 read_rows-requires c =
     let a = c.args in
-    let s = a.s.now in
-    let n = a.acceptors in
-    let l = a.learners in
-    let b : ListArrays = record { counts = a.counts.now; masks = a.masks.now } in
-    let long = c.requires.0.inside in
-    let p = c.requires in
-    (record { short = p.0.short; inside = quorums_end s n l long b c.read_quorums.result _ c.in-Is.at c.read_quorums.ensures c.in-Is.is; acceptors = p.0.acceptors }, record { few = p.1.few; sized = (search rules, search rules) })
+    let p = c.requires.0 in
+    let q = c.read_quorums in
+    let e = quorums_end a.s.now a.graph.now p.inside q.result q.new.graph q.ensures c.in_ok-at.at c.in_ok-at.was in
+    let (k, m) = quorums_kept a.s.now a.graph.now p.inside q.result q.new.graph q.ensures c.in_ok-at.at c.in_ok-at.was in
+    (record { short = p.short; inside = e; acceptors = omega (arith, p.acceptors) }, omega (arith, c.requires.1))
 
-pub returns-in-Refused-read_rows : goal.returns-in-Refused-read_rows
-returns-in-Refused-read_rows c =
+pub returns-in_err-end : goal.returns-in_err-end
+returns-in_err-end c =
     let a = c.args in
-    let s = a.s.now in
-    let n = a.acceptors in
-    let l = a.learners in
-    let b : ListArrays = record { counts = a.counts.now; masks = a.masks.now } in
-    let long = c.requires.0.inside in
-    lists_no s n l long b c.in-Refused-read_rows.r _ (rows_no s n l long b c.read_quorums.result _ c.in-Is.at c.read_quorums.ensures c.in-Is.is
-    c.read_rows.result _ c.read_rows.ensures c.in-Refused-read_rows.r c.in-Refused-read_rows.is)
+    let q = c.read_quorums in
+    let r = c.read_rows in
+    let x = c.in_err-end.field-0.0 in
+    let d : c.from_residual-in_err-end.result ≡ Err x = search rules in
+    rows_no a.s.now a.graph.now c.requires.0.inside q.result q.new.graph q.ensures c.in_ok-at.at c.in_ok-at.was r.result r.new.graph r.ensures c.from_residual-in_err-end.result x _ c.in_err-end.was d
 
 pub returns-then-end-s : goal.returns-then-end-s
 returns-then-end-s c =
     let a = c.args in
-    let s = a.s.now in
-    let n = a.acceptors in
-    let l = a.learners in
-    let b : ListArrays = record { counts = a.counts.now; masks = a.masks.now } in
-    let long = c.requires.0.inside in
-    let e = c.in-Is-read_rows.end in
-    let (f, g, h) = all_read s n l long b c.read_quorums.result _ c.in-Is.at c.read_quorums.ensures c.in-Is.is
-    c.read_rows.result _ c.read_rows.ensures e c.in-Is-read_rows.is
-    in
-    lists_no s n l long b Length _ (g ∙ ap (λ (x : Bool). pick x (got f e) (no Length)) (ne_eqb e (length s) c.if-end-s.true))
+    let q = c.read_quorums in
+    let r = c.read_rows in
+    lists_left a.s.now a.graph.now c.requires.0.inside q.result q.new.graph q.ensures c.in_ok-at.at c.in_ok-at.was r.result r.new.graph r.ensures c.in_ok-end.end _ c.in_ok-end.was c.if-end-s.true
 
 pub returns : goal.returns
 returns c =
     let a = c.args in
-    let s = a.s.now in
-    let n = a.acceptors in
-    let l = a.learners in
-    let b : ListArrays = record { counts = a.counts.now; masks = a.masks.now } in
-    let long = c.requires.0.inside in
-    let e = c.in-Is-read_rows.end in
-    let (f, g, h) = all_read s n l long b c.read_quorums.result _ c.in-Is.at c.read_quorums.ensures c.in-Is.is
-    c.read_rows.result _ c.read_rows.ensures e c.in-Is-read_rows.is
-    in
-    lists_yes s n l long b f e _ (g ∙ ap (λ (x : Bool). pick x (got f e) (no Length)) (eq-eqb e (length s) c.if-end-s.false)) h
+    let q = c.read_quorums in
+    let r = c.read_rows in
+    lists_whole a.s.now a.graph.now c.requires.0.inside q.result q.new.graph q.ensures c.in_ok-at.at c.in_ok-at.was r.result r.new.graph r.ensures c.in_ok-end.end c.in_ok-end.was c.if-end-s.false

@@ -1,38 +1,42 @@
-use mathlib.Core.Path.{◌≡◌, refl, ap}
-use Prim.Native.Nat.{ℕ, ◌-◌}
-use Rattle.graph.specs.Memory.{list_of}
-use Rattle.graphfile.specs.Writer.{lists_bytes, listed}
-use Rattle.graphfile.specs.Inside.Steps.{quorums_of}
-use Rattle.graphfile.proofs.Putting.{putting_from, list_room, list_more, lists_all}
+use mathlib.Core.Path.{subst}
+use mathlib.Core.List.{List}
+use Prim.Native.Nat.{ℕ}
+use Rattle.graph.specs.Memory.{view_of}
+use Rattle.graphfile.specs.Writer.{list_bytes, lists_bytes}
+use Rattle.graphfile.specs.Inside.Steps.{PutIn, quorums_of}
+use Rattle.graphfile.proofs.Putting.{list_asks, list_room, list_more, lists_all}
 use borrow.Author.Rules.{rules}
 use native.Mathlib.Omega.{arith}
 use Rattle.graphfile.proofs.writer.put_quorums.Goals as goal
 
-pub loop-a-init : goal.loop-a-init
-loop-a-init c =
-    let a = c.args in
-    let e : a.learners ≡ a.learners - 0 = omega arith in
-    (omega arith, (refl, putting_from a.at a.out.now (ap (λ (k : ℕ). lists_bytes (listed (λ a'. list_of a.counts.now a.masks.now a') 0 k)) e)))
-
 pub put_list-here-requires : goal.put_list-here-requires
 put_list-here-requires c =
     let a = c.args in
-    let p = c.requires in
+    let g = a.graph.now in
+    let p = c.requires.1 in
     let l = c.loop-a in
-    let m = list_room (λ k. list_of a.counts.now a.masks.now k) a.learners (lists_bytes (quorums_of a.counts.now a.masks.now a.learners)) a.at a.out.now l.a l.here l.out l.invariant.1.1 (omega arith) p.1.room in
-    let e = l.invariant.1.0 in
-    (let few = p.0.few in omega arith, (p.0.sized, record { fit = p.1.fit; room = omega arith }))
+    let t = c.loop-a-test.true in
+    let n = c.from-a-end.ensures in
+    let e = l.invariant.0 in
+    let m = list_room (view_of g).quorums g.learners (lists_bytes (quorums_of g)) a.at a.out.now l.a l.here l.out l.invariant.1 (omega arith) p.room in
+    list_asks g l.a c.list.result.now l.out l.here c.list.ensures p.fit (omega arith)
 
 pub loop-a-preserved : goal.loop-a-preserved
 loop-a-preserved c =
     let a = c.args in
-    let p = c.requires in
+    let g = a.graph.now in
     let l = c.loop-a in
-    let m = list_more (λ k. list_of a.counts.now a.masks.now k) a.learners (lists_bytes (quorums_of a.counts.now a.masks.now a.learners)) a.at a.out.now l.a l.here l.out l.invariant.1.1 c.put_list-here.result c.put_list-here.new.out (omega arith) p.1.room c.put_list-here.ensures in
-    (omega arith, (search rules, m))
+    let q = c.put_list-here in
+    let t = c.loop-a-test.true in
+    let n = c.from-a-end.ensures in
+    let put = subst (λ (x : List ℕ). PutIn (list_bytes x) l.here q.result l.out q.new.out) c.list.ensures q.ensures in
+    (search rules, list_more (view_of g).quorums g.learners (lists_bytes (quorums_of g)) a.at a.out.now l.a l.here l.out l.invariant.1 q.result q.new.out (omega arith) c.requires.1.room put)
 
 pub returns : goal.returns
 returns c =
     let a = c.args in
+    let g = a.graph.now in
     let l = c.loop-a in
-    lists_all (λ k. list_of a.counts.now a.masks.now k) a.learners (lists_bytes (quorums_of a.counts.now a.masks.now a.learners)) a.at a.out.now l.a l.here l.out l.invariant.1.1 (omega arith)
+    let t = c.loop-a-test.false in
+    let n = c.from-a-end.ensures in
+    lists_all (view_of g).quorums g.learners (lists_bytes (quorums_of g)) a.at a.out.now l.a l.here l.out l.invariant.1 (omega arith)

@@ -1,5 +1,5 @@
-use mathlib.Core.Path.{sym, ◌∙◌, refl, ◌≡◌, ap}
-use borrow.Author.Tests.{eq-eqb, ne_eqb}
+use mathlib.Core.Path.{◌∙◌, ◌≡◌, ap}
+use borrow.Author.Tests.{ne_eqb}
 use lib.ListN.{get_or, set}
 use native.Mathlib.Omega.{arith}
 use Rattle.roundbytes.specs.Layout.{round_in}
@@ -8,13 +8,6 @@ use Rattle.roundbytes.proofs.InPlace.{one_next, unwritten, round_then, of_parts}
 use Rattle.round.specs.Delivery.{with_recent}
 use Rattle.round.specs.Round.{Round}
 use Rattle.holding.proofs.hold.joined.Goals as goal
-
-pub returns-then-kind_at-eq-PROPOSAL : goal.returns-then-kind_at-eq-PROPOSAL
-returns-then-kind_at-eq-PROPOSAL c =
-    let a = c.args in
-    let s = a.s.now in
-    let k = sym c.kind_at.ensures ∙ c.if-kind_at-eq-PROPOSAL.true in
-    record { held = simp (eq-eqb (get_or (round_in s).kinds a.place 0) proposal_kind k); kept = (refl, refl) }
 
 pub returns : goal.returns
 returns c =

@@ -66,29 +66,17 @@ put8-requires-6 c = let k0 : length c.put_all.new.buf ≡ length c.args.s.now = 
     let n = c.requires.long in
     let q = c.requires.room in
     let held = held_in_lem c.args.s.now in
-    let e = c.size-place.ensures.0 in
+    let e = c.from-place.ensures in
     omega arith
 
 pub overflow_add-held : goal.overflow_add-held
 overflow_add-held c = let q = c.requires.room in let held = held_in_lem c.args.s.now in record { fits = omega arith }
 
-pub put8-requires-7 : goal.put8-requires-7
-put8-requires-7 c = let k0 : length c.put_all.new.buf ≡ length c.args.s.now = c.put_all.auto.buf in
-    let k1 : length c.put8.new.buf ≡ length c.put_all.new.buf = c.put8.auto.buf in
-    let k2 : length c.put8-2.new.buf ≡ length c.put8.new.buf = c.put8-2.auto.buf in
-    let k3 : length c.put64.new.buf ≡ length c.put8-2.new.buf = c.put64.auto.buf in
-    let k4 : length c.put8-3.new.buf ≡ length c.put64.new.buf = c.put8-3.auto.buf in
-    let k5 : length c.put8-4.new.buf ≡ length c.put8-3.new.buf = c.put8-4.auto.buf in
-    let k6 : length c.put8-5.new.buf ≡ length c.put8-4.new.buf = c.put8-5.auto.buf in
-    let k7 : length c.put8-6.new.buf ≡ length c.put8-5.new.buf = c.put8-6.auto.buf in
-    let n = c.requires.long in
-    omega arith
-
 pub returns : goal.returns
 returns c = let a = c.args in
     let h = c.requires in
-    let e = c.size-place.ensures.0 in
-    let both = row a.s.now c.put_all.new.buf c.put8.new.buf c.put8-2.new.buf c.put64.new.buf c.put8-3.new.buf c.put8-4.new.buf c.put8-5.new.buf c.put8-6.new.buf c.put8-7.new.buf a.id.now c.size-place.result
+    let e = c.from-place.ensures in
+    let both = row a.s.now c.put_all.new.buf c.put8.new.buf c.put8-2.new.buf c.put64.new.buf c.put8-3.new.buf c.put8-4.new.buf c.put8-5.new.buf c.put8-6.new.buf c.put8-7.new.buf a.id.now c.from-place.result
     a.kind a.signer a.ballot a.previous a.count a.known h.long (omega (arith, h.room, held_in_lem a.s.now)) e h.id_bytes c.ranges.ballot.fits
     c.put_all.ensures
     c.put8.ensures

@@ -1,7 +1,8 @@
 use mathlib.Core.Path.{ap, sym, ◌∙◌}
 use lib.ListN.{length}
 use borrow.Author.Tests.{lt-ltb, le-ltb}
-use Rattle.round.specs.declared.Report.{Report}
+use Rattle.std.specs.Prelude.{Ok}
+use Rattle.round.specs.Outcomes.{Reporting}
 use Rattle.round.specs.Answers.{report_number}
 use Rattle.round.proofs.Answers.{row_shut}
 use Rattle.hpaxos.specs.Round.{page_len, shown_in}
@@ -10,33 +11,33 @@ use Rattle.hpaxos.proofs.round_calls.hpaxos_report.Goals as goal
 pub returns-then-out-lt-REPORT_LEN : goal.returns-then-out-lt-REPORT_LEN
 returns-then-out-lt-REPORT_LEN c =
     let short = lt-ltb (length c.args.out.now) page_len c.if-out-lt-REPORT_LEN.true in
-    (c.number.ensures ∙ simp short, simp short)
+    (c.from.ensures ∙ simp short, simp short)
 
-pub returns-in-Refused : goal.returns-in-Refused
-returns-in-Refused c =
+pub returns-in-Err : goal.returns-in-Err
+returns-in-Err c =
     let a = c.args in
     let room = le-ltb (length a.out.now) page_len c.if-out-lt-REPORT_LEN.false in
-    let told = sym c.in-Refused.is ∙ c.report.ensures in
-    let shut = row_shut c.in-Refused.e in
-    (c.number-in-Refused.ensures ∙ ap report_number told ∙ sym (simp room), sym (simp shut) ∙ ap (λ (x : Report). shown_in x a.out.now) told ∙ sym (simp room))
+    let told = sym c.in-Err.is ∙ c.report.ensures in
+    let shut = row_shut c.in-Err.e in
+    (c.from-in-Err.ensures ∙ ap report_number told ∙ sym (simp room), sym (simp shut) ∙ ap (λ (x : Reporting). shown_in x a.out.now) told ∙ sym (simp room))
 
-pub returns-in-Undecided : goal.returns-in-Undecided
-returns-in-Undecided c =
+pub returns-in-Ok-Undecided : goal.returns-in-Ok-Undecided
+returns-in-Ok-Undecided c =
     let a = c.args in
     let room = le-ltb (length a.out.now) page_len c.if-out-lt-REPORT_LEN.false in
-    let told = sym c.in-Undecided.is ∙ c.report.ensures in
-    (ap report_number told ∙ sym (simp room), c.put_page.ensures ∙ ap (λ (x : Report). shown_in x a.out.now) told ∙ sym (simp room))
+    let told = ap Ok (sym c.in-Ok-Undecided.field-0-is) ∙ sym c.in-Ok-Undecided.is ∙ c.report.ensures in
+    (ap report_number told ∙ sym (simp room), c.put_page.ensures ∙ ap (λ (x : Reporting). shown_in x a.out.now) told ∙ sym (simp room))
 
-pub returns-in-Decided : goal.returns-in-Decided
-returns-in-Decided c =
+pub returns-in-Ok-Decided : goal.returns-in-Ok-Decided
+returns-in-Ok-Decided c =
     let a = c.args in
     let room = le-ltb (length a.out.now) page_len c.if-out-lt-REPORT_LEN.false in
-    let told = sym c.in-Decided.is ∙ c.report.ensures in
-    (ap report_number told ∙ sym (simp room), c.put_page-in-Decided.ensures ∙ ap (λ (x : Report). shown_in x a.out.now) told ∙ sym (simp room))
+    let told = ap Ok (sym c.in-Ok-Decided.field-0-is) ∙ sym c.in-Ok-Decided.is ∙ c.report.ensures in
+    (ap report_number told ∙ sym (simp room), c.put_page-in-Ok-Decided.ensures ∙ ap (λ (x : Reporting). shown_in x a.out.now) told ∙ sym (simp room))
 
-pub returns-in-Split : goal.returns-in-Split
-returns-in-Split c =
+pub returns-in-Ok-Split : goal.returns-in-Ok-Split
+returns-in-Ok-Split c =
     let a = c.args in
     let room = le-ltb (length a.out.now) page_len c.if-out-lt-REPORT_LEN.false in
-    let told = sym c.in-Split.is ∙ c.report.ensures in
-    (ap report_number told ∙ sym (simp room), c.put_page-in-Split.ensures ∙ ap (λ (x : Report). shown_in x a.out.now) told ∙ sym (simp room))
+    let told = ap Ok (sym c.in-Ok-Split.field-0-is) ∙ sym c.in-Ok-Split.is ∙ c.report.ensures in
+    (ap report_number told ∙ sym (simp room), c.put_page-in-Ok-Split.ensures ∙ ap (λ (x : Reporting). shown_in x a.out.now) told ∙ sym (simp room))

@@ -10,6 +10,3 @@ below x = omega arith
 
 pub overflow_cast-result : goal.overflow_cast-result
 overflow_cast-result c = record { fits = subst (λ (v : ℕ). v < 2 ^ 32) (sym c.value.ensures) (below c.args.ballot) }
-
-pub returns : goal.returns
-returns c = c.value.ensures

@@ -1,7 +1,7 @@
-use mathlib.Core.Path.{◌≡◌, refl, ap, ap₂, sym, ◌∙◌}
+use mathlib.Core.Path.{◌≡◌, ap, ap₂, sym, ◌∙◌}
 use mathlib.Core.Bool.{Bool}
 use mathlib.Core.List.{List}
-use Prim.Native.Nat.{ℕ, ◌+◌, ◌-◌, ◌≤◌}
+use Prim.Native.Nat.{ℕ, ◌+◌, ◌*◌, ◌-◌, ◌≤◌}
 use lib.Dec.{eqb, ltb}
 use lib.ListN.{length}
 use borrow.Author.Tests.{eq-eqb, ne_eqb}
@@ -36,43 +36,38 @@ returns-then-x-y c =
     let g = c.args in
     let s = g.s.now in
     let p = c.requires in
-    let words = before_number word_len (id_len - word_len) s g.a g.b (λ j. omega (arith, c.shared_slice_known-1.given j)) (omega arith) (omega arith) in
+    let words = before_number word_len (id_len - word_len) s g.a g.b (λ j. omega (arith, c.type_inv.s j)) (omega arith) (omega arith) in
     differ (be word_len s g.a) (be word_len s g.b) g.x g.y (rest s g.a g.b word_len) p.first_word p.second_word c.if-x-y.true ∙ sym words
 
-pub loop-i-init : goal.loop-i-init
-loop-i-init c =
+pub loop-k-init : goal.loop-k-init
+loop-k-init c =
     let g = c.args in
     let s = g.s.now in
     let p = c.requires in
-    let words = before_number word_len (id_len - word_len) s g.a g.b (λ j. omega (arith, c.shared_slice_known-1.given j)) (omega arith) (omega arith) in
-    (omega arith, (refl, words ∙ agree (be word_len s g.a) (be word_len s g.b) g.x g.y (rest s g.a g.b word_len) p.first_word p.second_word c.if-x-y.false))
-
-pub read64-v-requires : goal.read64-v-requires
-read64-v-requires c = omega arith
-
-pub read64-w-requires : goal.read64-w-requires
-read64-w-requires c = omega arith
+    let words = before_number word_len (id_len - word_len) s g.a g.b (λ j. omega (arith, c.type_inv.s j)) (omega arith) (omega arith) in
+    (omega arith, words ∙ agree (be word_len s g.a) (be word_len s g.b) g.x g.y (rest s g.a g.b word_len) p.first_word p.second_word c.if-x-y.false)
 
 pub returns-then-v-w : goal.returns-then-v-w
 returns-then-v-w c =
     let g = c.args in
     let s = g.s.now in
-    let i = c.loop-i.i in
-    let words = c.loop-i.invariant.1.1 ∙ step s g.a g.b i (λ j. omega (arith, c.shared_slice_known-1.given j)) (omega arith) (omega arith) (omega arith) in
+    let i = word_len * c.loop-k.k in
+    let words = c.loop-k.invariant.1 ∙ step s g.a g.b i (λ j. omega (arith, c.type_inv.s j)) (omega arith) (omega arith) (omega arith) in
     differ (be word_len s (g.a + i)) (be word_len s (g.b + i)) c.read64-v.result c.read64-w.result (rest s g.a g.b (i + word_len)) c.read64-v.ensures c.read64-w.ensures c.if-v-w.true ∙ sym words
 
-pub loop-i-preserved : goal.loop-i-preserved
-loop-i-preserved c =
+pub loop-k-preserved : goal.loop-k-preserved
+loop-k-preserved c =
     let g = c.args in
     let s = g.s.now in
-    let i = c.loop-i.i in
-    let words = c.loop-i.invariant.1.1 ∙ step s g.a g.b i (λ j. omega (arith, c.shared_slice_known-1.given j)) (omega arith) (omega arith) (omega arith) in
-    (omega arith, (omega arith, words ∙ agree (be word_len s (g.a + i)) (be word_len s (g.b + i)) c.read64-v.result c.read64-w.result (rest s g.a g.b (i + word_len)) c.read64-v.ensures c.read64-w.ensures c.if-v-w.false))
+    let i = word_len * c.loop-k.k in
+    let words = c.loop-k.invariant.1 ∙ step s g.a g.b i (λ j. omega (arith, c.type_inv.s j)) (omega arith) (omega arith) (omega arith) in
+    let more : i + word_len ≡ word_len * (c.loop-k.k + 1) = omega arith in
+    (omega arith, words ∙ agree (be word_len s (g.a + i)) (be word_len s (g.b + i)) c.read64-v.result c.read64-w.result (rest s g.a g.b (i + word_len)) c.read64-v.ensures c.read64-w.ensures c.if-v-w.false ∙ ap (rest s g.a g.b) more)
 
 pub returns : goal.returns
 unfolding before
 returns c =
     let g = c.args in
-    let i = c.loop-i.i in
+    let i = word_len * c.loop-k.k in
     let e : id_len - i ≡ 0 = omega arith in
-    sym (c.loop-i.invariant.1.1 ∙ ap (λ (k : ℕ). before (part k g.s.now (g.a + i)) (part k g.s.now (g.b + i))) e)
+    sym (c.loop-k.invariant.1 ∙ ap (λ (k : ℕ). before (part k g.s.now (g.a + i)) (part k g.s.now (g.b + i))) e)

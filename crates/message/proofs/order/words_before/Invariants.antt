@@ -1,7 +1,7 @@
 use mathlib.Core.Path.{◌≡◌}
 use mathlib.Core.Bool.{Bool}
 use mathlib.Core.List.{List}
-use Prim.Native.Nat.{ℕ, ◌+◌, ◌-◌, ◌%◌, ◌≤◌}
+use Prim.Native.Nat.{ℕ, ◌+◌, ◌-◌, ◌*◌, ◌/◌, ◌≤◌}
 use Rattle.base.specs.Bytes.{part}
 use Rattle.message.specs.Layout.{id_len}
 use Rattle.message.specs.Order.{before, word_len}
@@ -11,9 +11,6 @@ use Rattle.message.proofs.order.words_before.Given as goal
 abbrev pub rest : List ℕ → ℕ → ℕ → ℕ → Bool
 rest s a b i = before (part (id_len - i) s (a + i)) (part (id_len - i) s (b + i))
 
--- whole words were compared, and what is left decides
-abbrev pub invariant-loop-i : goal.invariant-loop-i
-invariant-loop-i l = (l.i ≤ id_len) × ((l.i % word_len ≡ 0) × (before (part id_len l.s l.a) (part id_len l.s l.b) ≡ rest l.s l.a l.b l.i))
-
-abbrev pub decreases-loop-i : goal.decreases-loop-i
-decreases-loop-i l = id_len - l.i
+-- the first k words are the same, and what is left decides
+abbrev pub invariant-loop-k : goal.invariant-loop-k
+invariant-loop-k l = (l.k ≤ id_len / word_len) × (before (part id_len l.s l.a) (part id_len l.s l.b) ≡ rest l.s l.a l.b (word_len * l.k))

@@ -7,6 +7,3 @@ use Rattle.places.proofs.sets.with_learner.Goals as goal
 
 pub returns-then-on : goal.returns-then-on
 returns-then-on c = let a = c.args in λ q. has_with 8 a.mask a.a q c.requires ∙ sym (ap (λ (b : Bool). (b && eqb a.a q) || has a.mask q) c.if-on.true)
-
-pub returns-else-on : goal.returns-else-on
-returns-else-on c = let a = c.args in λ q. sym (ap (λ (b : Bool). (b && eqb a.a q) || has a.mask q) c.if-on.false)

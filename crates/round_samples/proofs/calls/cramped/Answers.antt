@@ -1,4 +1,4 @@
-use Rattle.std.proofs.Common.{◌≡◌, ℕ, zero, suc, ◌+◌, ◌<◌, ◌≤◌, Bool, true, false, not, ◌||◌, eqb, ltb, List, [], length, get_or, replicate, sym, refl, ap, ◌∙◌, ap₂, arith, le-ltb, lt-ltb, eq-eqb}
+use Rattle.std.proofs.Common.{Err, ◌≡◌, ℕ, zero, suc, ◌+◌, ◌<◌, ◌≤◌, Bool, true, false, not, ◌||◌, eqb, ltb, List, [], length, get_or, replicate, sym, refl, ap, ◌∙◌, ap₂, arith, le-ltb, lt-ltb, eq-eqb}
 use lib.ListN.{length-replicate, get_or-replicate}
 use Rattle.base.specs.Tests.{pick}
 use Rattle.base.specs.declared.refusal.Refusal.TheVariants.{Argument}
@@ -6,26 +6,25 @@ use Rattle.message.specs.Writer.{fronted}
 use Rattle.message.specs.Reader.{reading}
 use Rattle.digest.specs.Sha256.{sha256}
 use Rattle.round.specs.Round.{Round}
-use Rattle.round.specs.declared.Outcome.{Outcome}
-use Rattle.round.specs.declared.Outcome.TheVariants as outcome
+use Rattle.round.specs.Outcomes.{Outcome}
 use Rattle.round.specs.Limits.{reply_len}
 use Rattle.round.specs.Handed.{fits}
-use Rattle.round.specs.Delivery.{Result, refused, taken, delivery}
+use Rattle.round.specs.Delivery.{Effect, refused, taken, delivery}
 use Rattle.roundbytes.specs.Layout.{round_len, round_in}
 use Rattle.engine.specs.Calls.{deliver_answer, reply_to}
 use Rattle.round_samples.specs.Calls.{blank, blanks, outcome_in64, left_by, differing_in}
 use Rattle.round_samples.proofs.calls.cramped.Goals as goal
 
 -- ---- a reply buffer that is too short: 17, and every byte as it was
-module _ (r : Round) (d : Result) (s : List ℕ) where
+module _ (r : Round) (d : Effect) (s : List ℕ) where
   turned : (t f u : Bool) → u ≡ true
-      → (pick t (outcome.Refused Argument) (pick (not f || u) (refused r Argument) d).outcome ≡ outcome.Refused Argument)
+      → (pick t (Err Argument) (pick (not f || u) (refused r Argument) d).outcome ≡ Err Argument)
       × (pick t s (fronted (pick (not f || u) (refused r Argument) d).reply s) ≡ s)
   turned true f u e = (refl, refl)
   turned false false u e = (refl, refl)
   turned false true u e = (ap (λ (k : Bool). (pick k (refused r Argument) d).outcome) e, ap (λ (k : Bool). fronted (pick k (refused r Argument) d).reply s) e)
 
-too_short : (r b s : List ℕ) → length s < reply_len → (deliver_answer r b s ≡ outcome.Refused Argument) × (reply_to r b s ≡ s)
+too_short : (r b s : List ℕ) → length s < reply_len → (deliver_answer r b s ≡ Err Argument) × (reply_to r b s ≡ s)
 unfolding deliver_answer reply_to delivery
 too_short r b s h =
     turned (round_in r) (taken sha256 (round_in r) b (reading b)) s (ltb (length r) round_len) (fits (round_in r)) (ltb (length s) reply_len) (lt-ltb (length s) reply_len h)
@@ -49,7 +48,7 @@ blank_still m = ap (λ (k : ℕ). differing_in k (replicate m blank) []) (length
 
 -- what follows of a buffer that was lent with 4,138 bytes
 module _ (r b s after : List ℕ) (e : s ≡ blanks 4138) where
-  refused_so : deliver_answer r b s ≡ outcome.Refused Argument
+  refused_so : deliver_answer r b s ≡ Err Argument
   refused_so = (too_short r b s (omega (arith, ap length e, blank_length 4138))).0
 
   nothing_written : after ≡ reply_to r b s → differing_in (length after) after [] ≡ 0

@@ -1,5 +1,5 @@
 use Rattle.std.proofs.Common.{ℕ, List, ap, ◌∙◌}
-use Rattle.round.specs.declared.Outcome.{Outcome}
+use Rattle.round.specs.Outcomes.{Outcome}
 use Rattle.engine.specs.Calls.{deliver_answer, deliver_to, reply_to}
 use Rattle.round_samples.specs.Calls.{outcome_in64}
 use Rattle.round_samples.proofs.calls.given.Goals as goal

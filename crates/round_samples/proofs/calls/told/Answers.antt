@@ -1,18 +1,24 @@
-use Rattle.std.proofs.Common.{ℕ, sym, ap, ◌∙◌}
-use Rattle.round.specs.declared.Report.{Report}
+use Rattle.std.proofs.Common.{Ok, ℕ, sym, ap, ◌∙◌}
+use Rattle.round.specs.Outcomes.{Reporting}
 use Rattle.round_samples.specs.Calls.{verdict_of}
 use Rattle.round_samples.proofs.calls.told.Goals as goal
 
-pub returns-in-Undecided : goal.returns-in-Undecided
-returns-in-Undecided c = ap (λ (v : Report). verdict_of v) (sym c.in-Undecided.is ∙ c.report.ensures)
+pub returns-in-Ok-Undecided : goal.returns-in-Ok-Undecided
+returns-in-Ok-Undecided c =
+    let told = ap Ok (sym c.in-Ok-Undecided.field-0-is) ∙ sym c.in-Ok-Undecided.is ∙ c.report.ensures in
+    ap (λ (v : Reporting). verdict_of v) told
 
-pub returns-in-Decided : goal.returns-in-Decided
-returns-in-Decided c = ap (λ (v : Report). verdict_of v) (sym c.in-Decided.is ∙ c.report.ensures)
+pub returns-in-Ok-Decided : goal.returns-in-Ok-Decided
+returns-in-Ok-Decided c =
+    let told = ap Ok (sym c.in-Ok-Decided.field-0-is) ∙ sym c.in-Ok-Decided.is ∙ c.report.ensures in
+    ap (λ (v : Reporting). verdict_of v) told
 
-pub returns-in-Split : goal.returns-in-Split
-returns-in-Split c = ap (λ (v : Report). verdict_of v) (sym c.in-Split.is ∙ c.report.ensures)
+pub returns-in-Ok-Split : goal.returns-in-Ok-Split
+returns-in-Ok-Split c =
+    let told = ap Ok (sym c.in-Ok-Split.field-0-is) ∙ sym c.in-Ok-Split.is ∙ c.report.ensures in
+    ap (λ (v : Reporting). verdict_of v) told
 
-pub returns-in-Refused : goal.returns-in-Refused
-returns-in-Refused c =
-    ap (λ (k : ℕ). record { number = k; state = 0; least = 0; other = 0 }) c.number.ensures
-    ∙ ap (λ (v : Report). verdict_of v) (sym c.in-Refused.is ∙ c.report.ensures)
+pub returns-in-Err : goal.returns-in-Err
+returns-in-Err c =
+    ap (λ (k : ℕ). record { number = k; state = 0; least = 0; other = 0 }) (c.from-in-Err.ensures ∙ c.from.ensures)
+    ∙ ap (λ (v : Reporting). verdict_of v) (sym c.in-Err.is ∙ c.report.ensures)

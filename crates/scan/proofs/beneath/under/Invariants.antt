@@ -1,4 +1,4 @@
-use Prim.Native.Nat.{◌≤◌, ◌-◌}
+use Prim.Native.Nat.{◌≤◌}
 use lib.ListN.{length, take}
 use Rattle.roundbytes.specs.Layout.{round_in}
 use Rattle.notes.specs.Inside.Layout.{word_notes}
@@ -6,8 +6,5 @@ use Rattle.scan.specs.Inside.Arrays.{Beneath}
 use Rattle.scan.proofs.beneath.under.Given as goal
 
 -- what was gathered lies beneath the first i of the places
-abbrev pub invariant-loop-i : goal.invariant-loop-i
-invariant-loop-i l = (l.i ≤ length l.places) × Beneath (round_in l.s) (word_notes l.words) (take l.i l.places) l.low l.high l.ballot l.offered
-
-abbrev pub decreases-loop-i : goal.decreases-loop-i
-decreases-loop-i l = length l.places - l.i
+abbrev pub invariant-loop-p : goal.invariant-loop-p
+invariant-loop-p l = (l.p-index ≤ length l.places) × Beneath (round_in l.s) (word_notes l.notes.words) (take l.p-index l.places) l.low l.high l.ballot l.offered

@@ -1,52 +1,75 @@
-use mathlib.Core.Path.{sym, ◌∙◌}
+use mathlib.Core.Path.{◌≡◌, sym, ap, ◌∙◌}
 use Prim.Native.Nat.{◌+◌}
 use borrow.Author.Count.{below_more}
+use lib.ListN.{get_or}
+use Rattle.places.specs.declared.Places.{Places}
+use Rattle.places.specs.declared.Walk.{Walk}
 use Rattle.places.proofs.Membership.{other}
-use Rattle.places.proofs.Walks.{walk_begun, walked_on}
+use Rattle.places.proofs.Going.{of_round, gone_on, gone_over}
 use Rattle.roundbytes.specs.Layout.{round_in}
 use Rattle.notes.specs.Inside.Layout.{word_notes}
 use Rattle.scan.proofs.Naming.{lent, passed}
 use native.Mathlib.Omega.{arith}
 use Rattle.scan.proofs.names.name_of.Goals as goal
 
-pub id_set-rest-requires : goal.id_set-rest-requires
-id_set-rest-requires c = let e = c.id_key.ensures in (c.requires.1.0, omega arith)
+pub overflow_mul-at : goal.overflow_mul-at
+overflow_mul-at c = let h = of_round c.loop-i.i-iterator _ _ c.in-Some.ensures.steps in omega arith
 
-pub loop-i-init : goal.loop-i-init
-loop-i-init c = let a = c.args in
-    let k = c.id_key in
-    let sets = c.id_set-rest in
-    let w = walk_begun c.first_in-i.ensures in
-    (w.1, passed (round_in a.s.now) a.id.now a.n (word_notes a.words.now) k.result sets.result.low sets.result.high c.requires.1.1.indexed k.ensures sets.ensures 0 c.first_in-i.result w.0 (λ j h e. omega arith))
+pub overflow_add-at : goal.overflow_add-at
+overflow_add-at c = let h = of_round c.loop-i.i-iterator _ _ c.in-Some.ensures.steps in omega arith
+
+pub overflow_add-at-in-loop-i : goal.overflow_add-at-in-loop-i
+overflow_add-at-in-loop-i c = let h = of_round c.loop-i.i-iterator _ _ c.in-Some.ensures.steps in omega arith
+
+pub slice_bounds-same-end : goal.slice_bounds-same-end
+slice_bounds-same-end c = let h = of_round c.loop-i.i-iterator _ _ c.in-Some.ensures.steps in let long = c.requires.0 in omega arith
 
 pub returns-then-same : goal.returns-then-same
-returns-then-same c = let a = c.args in
-    let l = c.loop-i in
+returns-then-same c =
+    let a = c.args in
+    let (b, gone, old) = c.loop-i.invariant in
+    let i = c.in-Some.i in
+    let steps = c.in-Some.ensures.steps in
+    let it = c.into_iter-i-iterator.result in
+    let set = ap (λ (w : Walk). w.rest) c.into_iter-i-iterator.ensures.into_iter_gives ∙ c.below-i-items.ensures.0 in
+    let k = c.id_key.result in
+    let x = word_notes a.notes.now.words in
+    let sets : (it.rest.low ≡ get_or x.idlow k 0) × (it.rest.high ≡ get_or x.idhigh k 0) = (ap (λ (p : Places). p.low) set ∙ c.id_set.ensures.0, ap (λ (p : Places). p.high) set ∙ c.id_set.ensures.1) in
+    let (by, less, on) = gone_on a.n it.rest.low it.rest.high b _ gone i _ steps in
     record {
-      bound = l.invariant.0.next.bound;
-      here = λ h. sym (lent a.s.now l.i (omega arith) c.requires.0) ∙ c.same.ensures.0 c.if-same.true;
-      first = l.invariant.1;
+      bound = omega arith;
+      here = λ h. sym (lent a.s.now i (of_round c.loop-i.i-iterator i _ steps) c.requires.0) ∙ c.same.ensures.0 c.if-same.true;
+      first = passed (round_in a.s.now) a.id.now a.n x k it.rest.low it.rest.high c.requires.1.indexed c.id_key.ensures sets b i by old;
     }
 
-pub loop-i-smaller : goal.loop-i-smaller
-loop-i-smaller c = let l = c.loop-i in
-    let w = walked_on l.invariant.0 c.loop-i-test.true c.without_first-rest.ensures c.first_in-i-in-loop-i.ensures in
-    omega arith
-
 pub loop-i-preserved : goal.loop-i-preserved
-loop-i-preserved c = let a = c.args in
-    let k = c.id_key in
-    let sets = c.id_set-rest in
-    let l = c.loop-i in
-    let w = walked_on l.invariant.0 c.loop-i-test.true c.without_first-rest.ensures c.first_in-i-in-loop-i.ensures in
-    let go = c.loop-i-test.true in
-    let few = c.requires.1.1.few in
-    let here = lent a.s.now l.i (omega arith) c.requires.0 in (
-      w.1,
-      passed (round_in a.s.now) a.id.now a.n (word_notes a.words.now) k.result sets.result.low sets.result.high c.requires.1.1.indexed k.ensures sets.ensures (l.i + 1) c.first_in-i-in-loop-i.result w.0
-          (below_more _ _ l.invariant.1 (λ e. other (c.same.ensures.1 (here ∙ e)) c.if-same.false)),
-    )
+loop-i-preserved c =
+    let a = c.args in
+    let (b, gone, old) = c.loop-i.invariant in
+    let i = c.in-Some.i in
+    let steps = c.in-Some.ensures.steps in
+    let it = c.into_iter-i-iterator.result in
+    let set = ap (λ (w : Walk). w.rest) c.into_iter-i-iterator.ensures.into_iter_gives ∙ c.below-i-items.ensures.0 in
+    let k = c.id_key.result in
+    let x = word_notes a.notes.now.words in
+    let sets : (it.rest.low ≡ get_or x.idlow k 0) × (it.rest.high ≡ get_or x.idhigh k 0) = (ap (λ (p : Places). p.low) set ∙ c.id_set.ensures.0, ap (λ (p : Places). p.high) set ∙ c.id_set.ensures.1) in
+    let (by, less, on) = gone_on a.n it.rest.low it.rest.high b _ gone i _ steps in
+    let here = lent a.s.now i (of_round c.loop-i.i-iterator i _ steps) c.requires.0 in
+    let before = passed (round_in a.s.now) a.id.now a.n x k it.rest.low it.rest.high c.requires.1.indexed c.id_key.ensures sets b i by old in
+    (i + 1, on, below_more _ _ before (λ e. other (c.same.ensures.1 (here ∙ e)) c.if-same.false))
 
 pub returns : goal.returns
-returns c = let l = c.loop-i in
-    record { bound = omega arith; here = λ h. absurd (omega arith); first = λ k h. l.invariant.1 k (omega arith) }
+returns c =
+    let a = c.args in
+    let (b, gone, old) = c.loop-i.invariant in
+    let it = c.into_iter-i-iterator.result in
+    let set = ap (λ (w : Walk). w.rest) c.into_iter-i-iterator.ensures.into_iter_gives ∙ c.below-i-items.ensures.0 in
+    let k = c.id_key.result in
+    let x = word_notes a.notes.now.words in
+    let sets : (it.rest.low ≡ get_or x.idlow k 0) × (it.rest.high ≡ get_or x.idhigh k 0) = (ap (λ (p : Places). p.low) set ∙ c.id_set.ensures.0, ap (λ (p : Places). p.high) set ∙ c.id_set.ensures.1) in
+    let by = gone_over a.n it.rest.low it.rest.high b _ gone c.in-None.ensures.steps.0 in
+    record {
+      bound = omega arith;
+      here = λ h. absurd (omega arith);
+      first = passed (round_in a.s.now) a.id.now a.n x k it.rest.low it.rest.high c.requires.1.indexed c.id_key.ensures sets b a.n by old;
+    }

@@ -17,38 +17,21 @@ falls true true false w e = refl
 falls true true true false e = refl
 falls true true true true e = absurd (other e refl)
 
-stands : (s f h w : Bool) → (not f || not w) ≡ false → s ≡ true → (s && f && h && w) ≡ h
-stands false f h w d e = absurd (other e refl)
-stands true false h w d e = absurd (other refl d)
-stands true true h false d e = absurd (other refl d)
-stands true true true true d e = refl
-stands true true false true d e = refl
-
 pub returns-then-form_at-top_at : goal.returns-then-form_at-top_at
 returns-then-form_at-top_at c =
     let a = c.args in
-    let x = word_notes a.words.now in
-    let y = byte_notes a.octets.now in
+    let x = word_notes a.notes.now.words in
+    let y = byte_notes a.notes.now.octets in
     let inside = in_set a.set.low a.set.high a.j in
     let form = eqb (get_or y.forms a.j 0) 1 in
     let equal = eqb (get_or x.tops a.j 0) a.ballot in
     λ b. has_zero b ∙ sym (falls inside form (has (get_or y.fresh a.j 0) b) equal (sym (ap₂ (λ (f g : ℕ). not (eqb f 1) || not (eqb g a.ballot)) c.form_at.ensures c.top_at.ensures) ∙ c.if-form_at-top_at.true))
 
-pub returns-then-has_place : goal.returns-then-has_place
-returns-then-has_place c =
+pub returns-else-has : goal.returns-else-has
+returns-else-has c =
     let a = c.args in
-    let x = word_notes a.words.now in
-    let y = byte_notes a.octets.now in
-    let inside = in_set a.set.low a.set.high a.j in
+    let x = word_notes a.notes.now.words in
+    let y = byte_notes a.notes.now.octets in
     let form = eqb (get_or y.forms a.j 0) 1 in
     let equal = eqb (get_or x.tops a.j 0) a.ballot in
-    λ b. ap (λ (m : ℕ). has m b) c.fresh_at.ensures ∙ sym (stands inside form (has (get_or y.fresh a.j 0) b) equal (sym (ap₂ (λ (f g : ℕ). not (eqb f 1) || not (eqb g a.ballot)) c.form_at.ensures c.top_at.ensures) ∙ c.if-form_at-top_at.false) (sym c.has_place.ensures ∙ c.if-has_place.true))
-
-pub returns-else-has_place : goal.returns-else-has_place
-returns-else-has_place c =
-    let a = c.args in
-    let x = word_notes a.words.now in
-    let y = byte_notes a.octets.now in
-    let form = eqb (get_or y.forms a.j 0) 1 in
-    let equal = eqb (get_or x.tops a.j 0) a.ballot in
-    λ b. has_zero b ∙ sym (ap (λ (t : Bool). t && form && has (get_or y.fresh a.j 0) b && equal) (sym c.has_place.ensures ∙ c.if-has_place.false))
+    λ b. has_zero b ∙ sym (ap (λ (t : Bool). t && form && has (get_or y.fresh a.j 0) b && equal) (sym c.has.ensures ∙ c.if-has.false))

@@ -1,17 +1,13 @@
 use mathlib.Core.Path.{◌≡◌}
 use mathlib.Core.Bool.{not, ◌&&◌}
-use Prim.Native.Nat.{ℕ, ◌≤◌, ◌-◌}
+use Prim.Native.Nat.{ℕ, ◌≤◌}
 use lib.Dec.{eqb}
 use Rattle.base.specs.Tests.{any, below}
 use Rattle.base.specs.Sets.{has}
 use Rattle.graph.specs.LearnerGraph.{safe_without}
-use Rattle.round.specs.Holdings.{graph_of}
-use Rattle.roundbytes.specs.Layout.{round_in}
+use Rattle.graph.specs.Memory.{view_of}
 use Rattle.voting.proofs.learners.fresh_for.Given as goal
 
 -- the mask has the learners below a that none is against
 abbrev pub invariant-loop-a : goal.invariant-loop-a
-invariant-loop-a v = (v.a ≤ v.k) × ((q : ℕ) → has v.mask q ≡ any (λ a. not (any (λ b. safe_without (graph_of (round_in v.s)) a b (has v.caught) && has v.against b) (below v.l)) && eqb a q) (below v.a))
-
-abbrev pub decreases-loop-a : goal.decreases-loop-a
-decreases-loop-a l = l.k - l.a
+invariant-loop-a v = (v.a ≤ v.k) × ((q : ℕ) → has v.mask q ≡ any (λ a. not (any (λ b. safe_without (view_of v.graph) a b (has v.caught) && has v.against b) (below v.l)) && eqb a q) (below v.a))

@@ -1,11 +1,10 @@
-use mathlib.Core.Path.{refl, ◌∙◌}
+use mathlib.Core.Path.{refl}
 use mathlib.Core.Bool.{◌&&◌}
 use Rattle.base.specs.Tests.{any, below}
 use Rattle.base.specs.Sets.{has}
 use Rattle.graph.specs.LearnerGraph.{safe_without}
-use Rattle.round.specs.Holdings.{graph_of}
-use Rattle.roundbytes.specs.Layout.{round_in}
-use Rattle.places.proofs.Loops.{any_again, any_done}
+use Rattle.graph.specs.Memory.{view_of}
+use Rattle.places.proofs.Loops.{any_again}
 use native.Mathlib.Omega.{arith}
 use Rattle.voting.proofs.learners.is_stale.Goals as goal
 
@@ -17,10 +16,4 @@ pub loop-b-preserved : goal.loop-b-preserved
 loop-b-preserved c =
     let a = c.args in
     let l = c.loop-b in
-    (omega arith, any_again (λ b. safe_without (graph_of (round_in a.s.now)) a.a b (has a.caught) && has a.against b) l.b c.is_against-found.result l.found c.is_against-found.ensures l.invariant.1)
-
-pub returns : goal.returns
-returns c =
-    let a = c.args in
-    let l = c.loop-b in
-    l.invariant.1 ∙ any_done (λ b. safe_without (graph_of (round_in a.s.now)) a.a b (has a.caught) && has a.against b) l.b a.l l.invariant.0 c.loop-b-test.false
+    (omega arith, any_again (λ b. safe_without (view_of a.graph.now) a.a b (has a.caught) && has a.against b) l.b c.is_against-found.result l.found c.is_against-found.ensures l.invariant.1)

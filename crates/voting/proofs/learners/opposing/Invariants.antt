@@ -11,7 +11,7 @@ use Rattle.voting.proofs.learners.opposing.Given as goal
 
 -- the mask has the barred learners below b
 abbrev pub invariant-loop-b : goal.invariant-loop-b
-invariant-loop-b v = (v.b ≤ v.l) × ((q : ℕ) → has v.mask q ≡ any (λ b. is_barred (round_in v.s) (word_notes v.words) (byte_notes v.octets) v.n v.set.low v.set.high v.signer v.v b && eqb b q) (below v.b))
+invariant-loop-b v = (v.b ≤ v.l) × ((q : ℕ) → has v.mask q ≡ any (λ b. is_barred (round_in v.s) (word_notes v.notes.words) (byte_notes v.notes.octets) v.n v.set.low v.set.high v.signer v.v b && eqb b q) (below v.b))
 
 abbrev pub decreases-loop-b : goal.decreases-loop-b
 decreases-loop-b v = v.l - v.b

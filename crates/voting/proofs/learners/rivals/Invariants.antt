@@ -1,16 +1,15 @@
 use mathlib.Core.Path.{◌≡◌}
-use Prim.Native.Nat.{ℕ, ◌-◌}
+use Prim.Native.Nat.{ℕ}
 use Rattle.base.specs.Tests.{any, below}
 use Rattle.base.specs.Sets.{has}
+use Rattle.places.proofs.Going.{coming, run, or_test}
 use Rattle.roundbytes.specs.Layout.{round_in}
 use Rattle.notes.specs.Inside.Layout.{word_notes, byte_notes}
-use Rattle.places.proofs.Walks.{Left}
 use Rattle.voting.specs.Inside.Votes.{is_rival}
 use Rattle.voting.proofs.learners.rivals.Given as goal
 
--- the mask has the learners of the rivals below j
+-- with the learners of the rivals to come, the mask has those of the rivals among the n places
 abbrev pub invariant-loop-j : goal.invariant-loop-j
-invariant-loop-j l = Left l.n l.initial.rest.low l.initial.rest.high l.rest.low l.rest.high l.j × ((b : ℕ) → has l.mask b ≡ any (is_rival (round_in l.s) (word_notes l.words) (byte_notes l.octets) l.set.low l.set.high l.signer l.v b) (below l.j))
-
-abbrev pub decreases-loop-j : goal.decreases-loop-j
-decreases-loop-j l = l.n - l.j
+invariant-loop-j l =
+    let test = is_rival (round_in l.s) (word_notes l.notes.words) (byte_notes l.notes.octets) l.set.low l.set.high l.signer l.v in
+    (b : ℕ) → run (or_test (test b)) (has l.mask b) (coming l.j-iterator) ≡ any (test b) (below l.n)

@@ -26,45 +26,26 @@ falls_then true true false g w e = refl
 falls_then true true true false w e = refl
 falls_then true true true true w e = e
 
-stands : (s f h g w : Bool) → (not f || not g) ≡ false → (s && w) ≡ true → (s && f && h && g && w) ≡ h
-stands false f h g w d e = absurd (other e refl)
-stands true false h g w d e = absurd (other refl d)
-stands true true h false w d e = absurd (other refl d)
-stands true true true true w d e = e
-stands true true false true w d e = refl
-
 pub returns-then-form_at-signer_at : goal.returns-then-form_at-signer_at
 returns-then-form_at-signer_at c =
     let a = c.args in
     let r = round_in a.s.now in
-    let x = word_notes a.words.now in
-    let y = byte_notes a.octets.now in
+    let x = word_notes a.notes.now.words in
+    let y = byte_notes a.notes.now.octets in
     let inside = in_set a.set.low a.set.high a.j in
     let form = eqb (get_or y.forms a.j 0) 2 in
     let signed = eqb (get_or r.signers a.j 0) a.signer in
     let differs = not (eqb (value_of (get_or x.tops a.j 0)) a.v) in
     λ b. has_zero b ∙ sym (falls_first inside form (has (get_or y.learners a.j 0) b) signed differs (sym (ap₂ (λ (f g : ℕ). not (eqb f 2) || not (eqb g a.signer)) c.form_at.ensures c.signer_at.ensures) ∙ c.if-form_at-signer_at.true))
 
-pub returns-then-has_place-value : goal.returns-then-has_place-value
-returns-then-has_place-value c =
+pub returns-else-has-value : goal.returns-else-has-value
+returns-else-has-value c =
     let a = c.args in
     let r = round_in a.s.now in
-    let x = word_notes a.words.now in
-    let y = byte_notes a.octets.now in
+    let x = word_notes a.notes.now.words in
+    let y = byte_notes a.notes.now.octets in
     let inside = in_set a.set.low a.set.high a.j in
     let form = eqb (get_or y.forms a.j 0) 2 in
     let signed = eqb (get_or r.signers a.j 0) a.signer in
     let differs = not (eqb (value_of (get_or x.tops a.j 0)) a.v) in
-    λ b. ap (λ (m : ℕ). has m b) c.learners_at.ensures ∙ sym (stands inside form (has (get_or y.learners a.j 0) b) signed differs (sym (ap₂ (λ (f g : ℕ). not (eqb f 2) || not (eqb g a.signer)) c.form_at.ensures c.signer_at.ensures) ∙ c.if-form_at-signer_at.false) (sym (ap₂ (λ (t : Bool) (u : ℕ). t && not (eqb u a.v)) c.has_place.ensures (c.value.ensures ∙ ap value_of c.top_at.ensures)) ∙ c.if-has_place-value.true))
-
-pub returns-else-has_place-value : goal.returns-else-has_place-value
-returns-else-has_place-value c =
-    let a = c.args in
-    let r = round_in a.s.now in
-    let x = word_notes a.words.now in
-    let y = byte_notes a.octets.now in
-    let inside = in_set a.set.low a.set.high a.j in
-    let form = eqb (get_or y.forms a.j 0) 2 in
-    let signed = eqb (get_or r.signers a.j 0) a.signer in
-    let differs = not (eqb (value_of (get_or x.tops a.j 0)) a.v) in
-    λ b. has_zero b ∙ sym (falls_then inside form (has (get_or y.learners a.j 0) b) signed differs (sym (ap₂ (λ (t : Bool) (u : ℕ). t && not (eqb u a.v)) c.has_place.ensures (c.value.ensures ∙ ap value_of c.top_at.ensures)) ∙ c.if-has_place-value.false))
+    λ b. has_zero b ∙ sym (falls_then inside form (has (get_or y.learners a.j 0) b) signed differs (sym (ap₂ (λ (t : Bool) (u : ℕ). t && not (eqb u a.v)) c.has.ensures (c.value.ensures ∙ ap value_of c.top_at.ensures)) ∙ c.if-has-value.false))

@@ -1,0 +1,17 @@
+use mathlib.Core.Path.{◌∙◌}
+use Prim.Native.Nat.{ℕ}
+use native.Mathlib.Omega.{arith}
+use Rattle.std.proofs.Common.{rules, tests}
+use Rattle.std.proofs.lemmas.Iterator.{YieldsList-from_range}
+use Rattle.std.proofs.lemmas.Iterator.Search.{all_from_yields_List}
+use Rattle.graph.specs.LearnerGraph.{condensed_at}
+use Rattle.graph.specs.Memory.{view_of}
+use Rattle.graph.proofs.Chains.{all_range}
+use Rattle.graph.proofs.Graph.condensed_pair.Goals as goal
+
+pub returns : goal.returns
+returns c =
+    let a = c.args in let g = a.self.now in
+    let test = λ (d : ℕ). condensed_at (view_of g) a.a a.b d in
+    all_from_yields_List test _ _ _ c.all.ensures.ran (YieldsList-from_range 0 g.learners g.learners (cc) (omega arith)) (λ x b q w. search (rules, tests))
+    ∙ all_range test g.learners

@@ -1,0 +1,6 @@
+use Rattle.graph.specs.LearnerGraph.{is_quorum}
+use Rattle.graph.proofs.Graph.is_quorum.Goals as goal
+
+pub returns : goal.returns
+unfolding is_quorum
+returns c = c.some_contained.ensures

@@ -1,0 +1,16 @@
+use mathlib.Core.Path.{ap, ◌∙◌}
+use Prim.Native.Nat.{ℕ, ◌-◌}
+use lib.Bits.{bit_and}
+use Rattle.std.proofs.Common.{rules}
+use Rattle.base.specs.Tests.{any}
+use Rattle.base.specs.Sets.{has, apart}
+use Rattle.graph.specs.Inside.Asking.{within}
+use Rattle.graph.proofs.Memory.{list_apart}
+use Rattle.graph.proofs.Graph.some_apart.Goals as goal
+
+pub returns : goal.returns
+returns c =
+    let a = c.args in let n = a.self.now.acceptors in let l = c.list-masks.result.now in
+    c.some_within.ensures ∙ ap (λ (x : ℕ). any (within (4294967295 - bit_and a.set x)) l) c.known.ensures
+    ∙ list_apart l n a.set (λ i. search rules) c.ranges.set.fits
+    ∙ ap (any (apart n (has a.set))) c.list-masks.ensures
