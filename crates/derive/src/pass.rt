@@ -63,7 +63,7 @@ fn extend(s: &[u8], graph: &Graph, notes: &mut Notes, from: usize)
     }
 }
 
-// The notes of the held messages, whatever stood in the arrays.
+// The notes of the held messages, whatever stood in the notes.
 pub fn work_out(s: &[u8], graph: &Graph, notes: &mut Notes)
     requires { Given s.now graph.now }
     ensures { WorkedOut (round_in s.now) notes.new }

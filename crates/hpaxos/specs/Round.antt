@@ -1,4 +1,4 @@
--- The numbers that the C calls on a round in a lent buffer answer, and each byte that they write. What each call answers as an enum, and the round's bytes
+-- The numbers that the C calls on a round in a lent buffer answer, and each byte that they write. What each call answers as a Result, and the round's bytes
 -- afterwards, are definitions of the crate engine; each answer's number is one of round/specs/Answers.
 use Rattle.std.specs.Prelude.{List, [], ◌∷◌, ◌++◌, ℕ, eqb, ltb, length}
 use Rattle.base.specs.Tests.{pick}

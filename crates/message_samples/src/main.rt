@@ -2,7 +2,7 @@
 // The bytes and the numbers expected are written out from the document, not made by the library.
 #![tactic(auto)]
 
-ghost use Rattle.std.specs.Prelude.{◌+◌, ◌*◌, ◌<◌, ◌≤◌, length};
+ghost use Rattle.std.specs.Prelude.{◌+◌, ◌*◌, ◌<◌, ◌≤◌};
 
 use message::Message;
 use message::ballot::{meant_round, round_of, value_of};

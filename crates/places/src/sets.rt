@@ -1,8 +1,8 @@
 // Sets as bits: places in two words, acceptors and learners in a mask.
-ghost use Rattle.std.specs.Prelude.{◌≡◌, ◌&&◌, ◌||◌, ℕ, ◌+◌, ◌≤◌, ◌<◌, min, max, T, eqb, length, get_or};
+ghost use Rattle.std.specs.Prelude.{◌≡◌, ◌&&◌, ◌||◌, ℕ, ◌+◌, ◌<◌, T, eqb, length, get_or};
 ghost use Rattle.base.specs.Sets.{has};
 ghost use Rattle.base.specs.Bytes.{part};
-ghost use Rattle.places.specs.Inside.PlaceSets.{in_set, meets, First, Dropped, Grown};
+ghost use Rattle.places.specs.Inside.PlaceSets.{in_set, Grown};
 ghost use Rattle.round.specs.Limits.{max_held};
 ghost use Rattle.graph.specs.Limits.{mask_bits, max_learners};
 

@@ -38,18 +38,11 @@ pub struct Verdict {
     pub other: u64,
 }
 
-// A reply buffer of the least length that is enough.
-fn blank() -> [u8; 4139]
-    ensures { result ≡ blanks 4139 }
+// A reply buffer of N bytes. 4139 is the least length that is enough.
+fn blank<const N: usize>() -> [u8; N]
+    ensures { result ≡ blanks N }
 {
-    [BLANK; 4139]
-}
-
-// A reply buffer with one byte less.
-fn short() -> [u8; 4138]
-    ensures { result ≡ blanks 4138 }
-{
-    [BLANK; 4138]
+    [BLANK; N]
 }
 
 // A round's buffer before it is opened.
@@ -78,7 +71,7 @@ pub fn given(round: Round, bytes: &[u8]) -> Step
         × ((result.round.bytes ≡ deliver_to round.bytes bytes.now (blanks 4139))
         × (result.reply ≡ reply_to round.bytes bytes.now (blanks 4139))) }
 {
-    let mut reply = blank();
+    let mut reply = blank::<4139>();
     let mut next = round.bytes;
     let outcome = deliver(&mut next, bytes, &mut reply);
     Step {
@@ -100,7 +93,7 @@ pub fn after(round: Round, bytes: &[u8]) -> Round
 pub fn cramped(round: Round, bytes: &[u8]) -> u64
     ensures { result ≡ number_of Argument }
 {
-    let mut reply = short();
+    let mut reply = blank::<4138>();
     let mut next = round.bytes;
     let outcome = deliver(&mut next, bytes, &mut reply);
     if differing(&reply, b"") != 0 {

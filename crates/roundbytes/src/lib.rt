@@ -8,7 +8,7 @@ use round::{MAX_HELD, NO_PLACE};
 
 pub mod readers;
 
-ghost use Rattle.std.specs.Prelude.{◌≡◌, ◌+◌, ◌-◌, ◌*◌, ◌≤◌, length, replicate};
+ghost use Rattle.std.specs.Prelude.{◌≡◌, ◌+◌, ◌*◌, ◌≤◌, length};
 ghost use Rattle.base.specs.Bytes.{put_at};
 ghost use Rattle.message.specs.Writer.{fronted};
 ghost use Rattle.round.specs.Limits.{no_place};
@@ -57,7 +57,7 @@ pub const RECENT_AT: usize = KNOWN_AT + MAX_HELD;
 pub const ROUND_LEN: usize = RECENT_AT + MAX_HELD;
 
 // ---- the graph read
-fn masks_in(s: &[u8]) -> [u32; MASK_SLOTS]
+pub fn masks_in(s: &[u8]) -> [u32; MASK_SLOTS]
     requires { house_at ≤ length s.now }
     ensures { result ≡ numbers 4 (max_masks * lists) s.now masks_at }
 {

@@ -5,7 +5,7 @@ ghost use Rattle.base.specs.Sets.{has};
 ghost use Rattle.places.specs.Inside.PlaceSets.{in_set};
 ghost use Rattle.round.specs.Holdings.{signer_at};
 ghost use Rattle.roundbytes.specs.Layout.{round_len, round_in};
-ghost use Rattle.notes.specs.Inside.Layout.{words_len, octets_len, word_notes, byte_notes};
+ghost use Rattle.notes.specs.Inside.Layout.{word_notes, byte_notes};
 ghost use Rattle.notes.specs.Inside.Asking.{Covering};
 ghost use Rattle.scan.specs.Inside.Arrays.{is_fork, is_caught};
 ghost use Rattle.round.specs.Limits.{max_held};

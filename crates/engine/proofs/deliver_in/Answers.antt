@@ -1,8 +1,6 @@
 use borrow.Author.Rules.{rules}
 use mathlib.Core.Path.{ap, sym, ◌∙◌, refl, ◌≡◌, subst}
-use mathlib.Core.Bool.{not, true}
-use lib.ListN.{length}
-use lib.Dec.{T}
+use mathlib.Core.Bool.{not}
 use Rattle.round.specs.Outcomes.{Outcome}
 use Rattle.std.specs.Prelude.{Ok, Err}
 use Rattle.roundbytes.specs.Layout.{round_in}
@@ -10,8 +8,6 @@ use Rattle.answering.specs.Inside.Giving.{left, Gives}
 use Rattle.base.specs.declared.refusal.Refusal.TheVariants.{Argument}
 use Rattle.engine.proofs.Delivering.{told, misfit, short, let_in, unread}
 use Rattle.digest.specs.Sha256.{sha256}
-use Rattle.message.specs.Layout.{id_len}
-use Rattle.round.specs.Handed.{fits}
 use Rattle.protocol.specs.Ids.{Id}
 use Rattle.round.specs.Delivery.{proposal_taken, acceptor_taken}
 use Rattle.round.specs.Rows.{previous_id, reference_ids}
@@ -37,26 +33,6 @@ returns-then-reply-lt-MAX_LEN c =
     let f = ap not (sym c.fits.ensures) in
     let x = left (Err Argument) s in
     record { given = told sha256 r b a.reply.now x a.reply.now (short sha256 r b a.reply.now x (f ∙ (ap not c.if-not-fits.false)) c.if-reply-lt-MAX_LEN.true refl); kept = (refl, refl) }
-
-pub take_proposal-requires : goal.take_proposal-requires
-take_proposal-requires c =
-    let long : length c.sha256-id.result ≡ id_len = search rules in
-    let a = c.args in
-    let p = c.requires in
-    let s = a.s.now in
-    let r = round_in s in
-    let t : fits r ≡ true = sym c.fits.ensures ∙ c.if-not-fits.false in
-    record { passes = record { long = p; fit = subst T (sym t) tt }; id_bytes = long; long = c.if-reply-lt-MAX_LEN.false }
-
-pub take_vote-requires : goal.take_vote-requires
-take_vote-requires c =
-    let long : length c.sha256-id.result ≡ id_len = search rules in
-    let a = c.args in
-    let p = c.requires in
-    let s = a.s.now in
-    let r = round_in s in
-    let t : fits r ≡ true = sym c.fits.ensures ∙ c.if-not-fits.false in
-    (record { passes = record { long = p; fit = subst T (sym t) tt }; id_bytes = long; long = c.if-reply-lt-MAX_LEN.false }, sym c.read.ensures ∙ c.in_ok-message.was ∙ ap Ok c.in-OfAcceptor.is)
 
 pub returns-in_err-message : goal.returns-in_err-message
 returns-in_err-message c =

@@ -1,7 +1,6 @@
-use mathlib.Core.Path.{sym, ◌∙◌, ◌≡◌, subst, ap}
+use mathlib.Core.Path.{sym, ◌∙◌, ◌≡◌, ap}
 use native.Mathlib.Omega.{arith}
 use mathlib.Core.Bool.{true}
-use lib.Dec.{T}
 use Prim.Native.Nat.{ℕ}
 use Rattle.std.specs.Prelude.{Ok}
 use Rattle.round.proofs.OneByte.{unfit_reported}
@@ -23,15 +22,6 @@ returns-then-learners_of-number c =
     let n = c.from-number.ensures in
     let l = c.learners_of.ensures.0 in
     refused_learner r a.learner (sym c.fits.ensures ∙ c.if-not-fits.false) (omega (arith, c.if-learners_of-number.true))
-
-pub verdict_for-requires : goal.verdict_for-requires
-verdict_for-requires c =
-    let a = c.args in
-    let s = a.s.now in
-    let r = round_in s in
-    let f : fits r ≡ true = sym c.fits.ensures ∙ c.if-not-fits.false in
-    let l = c.learners_of.ensures.0 in
-    (record { long = c.requires; fit = subst T (sym f) tt }, (c.graph_in-graph.ensures, omega (arith, c.if-learners_of-number.false)))
 
 pub returns : goal.returns
 returns c =

@@ -64,11 +64,6 @@ returns-then-not-place_fits c =
     let n = c.held_of-held.ensures.0 in
     sym (no_last r (sym c.graph_fits.ensures ∙ c.if-not-graph_fits.false) (owned r c.own_of.result c.acceptors_of.result c.own_fits.result true c.own_of.ensures c.acceptors_of.ensures c.own_fits.ensures.allowed c.if-not-own_fits.false) (omega (arith, c.if-held-gt-MAX_HELD.false)) (sent r c.last_of.result c.held_of-held.result c.place_fits.result false c.last_of.ensures c.held_of-held.ensures.0 c.place_fits.ensures c.if-not-place_fits.true))
 
-pub messages_fit-requires : goal.messages_fit-requires
-messages_fit-requires c =
-    let n = c.held_of-held.ensures.0 in
-    (c.requires, omega (arith, c.if-held-gt-MAX_HELD.false))
-
 pub returns : goal.returns
 returns c =
     let r = round_in c.args.s.now in

@@ -47,11 +47,6 @@ returns-then-learners-gt-MAX_LEARNERS c =
     let w = c.if-learners-gt-MAX_LEARNERS.true in
     simp (le-leb 1 g.acceptors (omega arith), le-leb g.acceptors max_acceptors (omega arith), le-leb 1 g.learners (omega arith), lt-leb g.learners max_learners (omega arith))
 
-pub lists_fit-requires : goal.lists_fit-requires
-lists_fit-requires c =
-    let y = c.learners_of-learners.ensures.0 in
-    (c.requires, omega (arith, c.if-learners-gt-MAX_LEARNERS.false))
-
 pub returns : goal.returns
 unfolding graph_fits
 returns c =

@@ -17,15 +17,6 @@ use Rattle.handed.proofs.lists_fit.Goals as goal
 small : (l : ℕ) → l ≤ max_learners → l * (l + 1) ≤ max_learners * (max_learners + 1)
 small l h = let e : l * (l + 1) ≤ max_learners * (l + 1) = mul-le-mul_right (l + 1) h in omega arith
 
-pub overflow_add-pairs : goal.overflow_add-pairs
-overflow_add-pairs c = let n = c.learners_of-learners.ensures.1 in omega arith
-
-pub overflow_mul-pairs : goal.overflow_mul-pairs
-overflow_mul-pairs c =
-    let e = c.learners_of-learners.ensures.0 in
-    let h = small c.learners_of-learners.result (omega (arith, c.requires.1)) in
-    omega arith
-
 pub all-requires-clause-callable : goal.all-requires-clause-callable
 all-requires-clause-callable c =
     let n = c.learners_of-learners.result in

@@ -8,7 +8,7 @@ use Rattle.round.specs.Limits.{reply_len, max_held}
 use Rattle.judging.proofs.Voting.{stands}
 use Rattle.round.proofs.Fitting.{fits_out}
 use Rattle.roundbytes.specs.Layout.{round_in}
-use Rattle.answering.proofs.Replying.{reply_within, reply_refers, reply_front, reply_record_lem, gives_second, front_none, gives_first, reply_long, put_front}
+use Rattle.answering.proofs.Replying.{reply_refers, reply_front, reply_record_lem, gives_second, front_none, gives_first, reply_long, put_front}
 use Rattle.digest.specs.Sha256.{sha256}
 use Rattle.round.specs.Reply.{reply_bytes, is_sent, reply_record}
 use Rattle.round.specs.Rows.{message_of}
@@ -29,17 +29,6 @@ form_reply-z-requires c =
     let l : reply_len ≤ length zeros = omega (arith, length-replicate {A = ℕ} reply_len 0) in
     record { whole = stands a.s.now p.0.passes; voting = p.1.1; last = (fits_out (round_in a.s.now) p.0.passes.fit).last; long = l }
 
-pub slice_bounds-sha256-end : goal.slice_bounds-sha256-end
-slice_bounds-sha256-end c =
-    let a = c.args in
-    let p = c.requires in
-    let r = round_in a.s.now in
-    let f = fits_out r p.0.passes.fit in
-    let z = c.form_reply-z in
-    let now = z.new.buf in
-    let h = reply_within r f a.p p.1.0.here z.result z.ensures.0 (replicate reply_len 0) now z.ensures.1 in
-    search rules
-
 pub is_sent-requires : goal.is_sent-requires
 is_sent-requires c =
     let a = c.args in
@@ -49,11 +38,6 @@ is_sent-requires c =
     let z = c.form_reply-z in
     let now = z.new.buf in
     (p.0, reply_refers r f a.p p.1.0.here z.result z.ensures.0)
-
-pub join-requires : goal.join-requires
-join-requires c =
-    let p = c.requires in
-    (p.0.passes.long, omega (arith, p.1.0.here, (fits_out (round_in c.args.s.now) p.0.passes.fit).most))
 
 pub returns-then-not-is_sent : goal.returns-then-not-is_sent
 returns-then-not-is_sent c =
@@ -73,29 +57,6 @@ returns-then-not-is_sent c =
           (sym t ∙ c.if-not-is_sent.true) (c.join.ensures.given, front_none a.reply.now);
       kept = c.join.ensures.kept;
     }
-
-pub slice_bounds-put_all-end : goal.slice_bounds-put_all-end
-slice_bounds-put_all-end c =
-    let a = c.args in
-    let p = c.requires in
-    let r = round_in a.s.now in
-    let f = fits_out r p.0.passes.fit in
-    let z = c.form_reply-z in
-    let now = z.new.buf in
-    let h = reply_within r f a.p p.1.0.here z.result z.ensures.0 (replicate reply_len 0) now z.ensures.1 in
-    search rules
-
-pub put_all-requires : goal.put_all-requires
-put_all-requires c =
-    let a = c.args in
-    let p = c.requires in
-    let r = round_in a.s.now in
-    let f = fits_out r p.0.passes.fit in
-    let z = c.form_reply-z in
-    let now = z.new.buf in
-    let h = reply_within r f a.p p.1.0.here z.result z.ensures.0 (replicate reply_len 0) now z.ensures.1 in
-    let long = p.1.0.long in
-    search rules
 
 pub send-requires : goal.send-requires
 send-requires c =

@@ -14,17 +14,6 @@ returns-then-own_of-ge-LISTENING c =
     let o = c.own_of.ensures in
     record { given = process_listening sha256 a.s.now a.p a.reply.now (subst (λ (n : ℕ). listening ≤ n) o c.if-own_of-ge-LISTENING.true); kept = (refl, refl) }
 
-pub note_last-requires : goal.note_last-requires
-note_last-requires c =
-    let p = c.requires in
-    (p.0.passes, p.1)
-
-pub answer-requires : goal.answer-requires
-answer-requires c =
-    let p = c.requires in
-    let o = c.own_of.ensures in
-    (record { passes = p.0.passes; read = p.1.0; worked = c.note_last.ensures }, (p.0, omega (arith, c.if-own_of-ge-LISTENING.false)))
-
 pub returns : goal.returns
 returns c =
     let a = c.args in

@@ -21,13 +21,6 @@ work_out-requires c =
     let p = c.requires in
     given_of a.s.now _ p.passes.long c.graph_in-graph.ensures p.passes.fit
 
-pub answer-requires : goal.answer-requires
-answer-requires c =
-    let a = c.args in
-    let p = c.requires in
-    let o = c.own_of.ensures in
-    (record { passes = p.passes; read = c.graph_in-graph.ensures; worked = c.work_out.ensures }, (p, omega (arith, c.if-own_of-ge-LISTENING.false)))
-
 pub returns : goal.returns
 returns c =
     let a = c.args in

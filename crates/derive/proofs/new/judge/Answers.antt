@@ -18,7 +18,6 @@ use Rattle.roundbytes.specs.Layout.{round_in}
 use Rattle.notes.specs.Inside.Layout.{word_notes, byte_notes}
 use Rattle.voting.specs.Inside.Votes.{backed_by}
 use Rattle.meaning.proofs.Working.{first_judged, second_judged}
-use Rattle.meaning.proofs.Walking.{covers_crowd, covers_backers}
 use Rattle.meaning.proofs.Naming.{candidate, previous_law}
 use Rattle.scan.specs.Inside.Arrays.{is_crowding, is_repeat, Lowest}
 use Rattle.derive.proofs.new.judge.Goals as goal
@@ -32,23 +31,6 @@ under-u-requires c =
     let a = c.args in
     let pre = c.requires in
     (pre.given.graphed.long, referred a.places.now (round_in a.s.now).held pre.given.fit.held pre.earlier)
-
-pub name_of-name-requires : goal.name_of-name-requires
-name_of-name-requires c =
-    let pre = c.requires in
-    let e = c.held_of-held.ensures.0 in
-    (pre.given.graphed.long, record { few = omega (arith, e, pre.given.fit.held); indexed = λ j l. pre.complete.ids j (omega (arith, e, l)) })
-
-pub is_crowded-crowded-requires : goal.is_crowded-crowded-requires
-is_crowded-crowded-requires c =
-    let a = c.args in
-    let pre = c.requires in
-    let r = round_in a.s.now in
-    let u = c.under-u.result in
-    let n = c.held_of-held in
-    let e = n.ensures.0 in
-    let few = pre.given.fit.held in
-    (pre.given.graphed.long, record { few = omega (arith, e, few); covers = λ j l. covers_crowd r.held r (word_notes a.notes.now.words) (byte_notes a.notes.now.octets) few pre.complete.marked u.set.low u.set.high c.name_of-name.result u.ballot c.peers_of-peers.result.low c.peers_of-peers.result.high c.peers_of-peers.ensures j (omega (arith, e, l)) })
 
 pub returns-then-u : goal.returns-then-u
 returns-then-u c =
@@ -67,17 +49,6 @@ returns-then-u c =
     first_judged (graph_of r) (table_of r) r x y a.places.now pre.complete.known a.id.now signer (named r a.previous) r.held (length_tabulate r.held (record_at r)) few ca.earlier
     u.set.low u.set.high u.ballot u.offered under.ensures name.result (get_or y.names a.previous 0) ca c.is_crowded-crowded.result
     (c.is_crowded-crowded.ensures ∙ ap (λ (k : ℕ). any (is_crowding r x y u.set.low u.set.high name.result u.ballot) (below k)) n.ensures.0) c.if-u.true
-
-pub learners_for-learned-requires : goal.learners_for-learned-requires
-learners_for-learned-requires c =
-    let a = c.args in
-    let pre = c.requires in
-    let r = round_in a.s.now in
-    let u = c.under-u.result in
-    let e = c.held_of-held.ensures.0 in
-    let few = pre.given.fit.held in
-    let b = c.backers_of-backers in
-    (pre.given.graphed.acceptors, (record { long = pre.given.graphed.long; few = omega (arith, e, few); backers = λ q j l. covers_backers r.held r (word_notes a.notes.now.words) (byte_notes a.notes.now.octets) few pre.complete.marked u.set.low u.set.high u.ballot b.result.low b.result.high b.ensures q j (omega (arith, e, l)) }, omega (arith, c.learners_of-l.ensures.0, pre.given.learners)))
 
 pub is_repeated-repeated-requires : goal.is_repeated-repeated-requires
 is_repeated-repeated-requires c =

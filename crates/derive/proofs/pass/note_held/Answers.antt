@@ -1,7 +1,7 @@
 use mathlib.Core.Path.{sym, subst, ◌∙◌}
 use Prim.Native.Nat.{ℕ, suc}
 use lib.ListN.{get_or}
-use borrow.Author.Tests.{eq-eqb, ne_eqb}
+use borrow.Author.Tests.{eq-eqb}
 use Rattle.message.specs.Layout.{proposal_kind}
 use Rattle.round.specs.Holdings.{graph_of}
 use Rattle.roundbytes.specs.Layout.{round_in}
@@ -19,12 +19,6 @@ returns-then-kind_at-eq-PROPOSAL c =
     let off = eq-eqb (get_or r.kinds a.p 0) proposal_kind (sym c.kind_at.ensures ∙ c.if-kind_at-eq-PROPOSAL.true) in
     λ names kn. subst (λ (z : ℕ). Noted (graph_of r) (table_to r (suc a.p)) a.p alone.result.low alone.result.high 0 0 z 0 0 0) (sym c.ballot_at.ensures)
     (offer_noted (graph_of r) r r.held pre.0.given.fit a.p pre.1 off alone.result.low alone.result.high alone.ensures)
-
-pub step-r-requires : goal.step-r-requires
-step-r-requires c =
-    let a = c.args in
-    let pre = c.requires in
-    (pre.0, (pre.1, ne_eqb (get_or (round_in a.s.now).kinds a.p 0) proposal_kind (λ e. c.if-kind_at-eq-PROPOSAL.false (c.kind_at.ensures ∙ e))))
 
 pub returns : goal.returns
 returns c =

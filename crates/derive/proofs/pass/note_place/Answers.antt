@@ -14,19 +14,6 @@ use Rattle.derive.specs.Inside.Complete.{Extended}
 use Rattle.derive.proofs.Extending.{one_more}
 use Rattle.derive.proofs.pass.note_place.Goals as goal
 
-pub note_down-requires : goal.note_down-requires
-note_down-requires c =
-    let pre = c.requires in omega (arith, pre.1, pre.0.given.fit.held)
-
-pub signer_at-requires : goal.signer_at-requires
-signer_at-requires c =
-    let pre = c.requires in (pre.0.given.graphed.long, omega (arith, pre.1, pre.0.given.fit.held))
-
-pub file_place-requires : goal.file_place-requires
-file_place-requires c =
-    let pre = c.requires in
-    omega (arith, pre.1, pre.0.given.fit.held)
-
 pub returns : goal.returns
 returns c =
     let a = c.args in

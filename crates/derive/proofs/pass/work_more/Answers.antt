@@ -4,37 +4,14 @@ use native.Mathlib.Omega.{arith}
 use Rattle.round.specs.Holdings.{graph_of}
 use Rattle.roundbytes.specs.Layout.{round_in}
 use Rattle.notes.specs.Inside.Layout.{word_notes, byte_notes}
-use Rattle.notes.specs.Inside.Index.{Marks}
 use Rattle.notes.proofs.Fields.{byte_rooms}
 use Rattle.scan.specs.Inside.Arrays.{Named, IdsIndexed, NamedAll}
 use Rattle.scan.proofs.Naming.{all_more}
 use Rattle.meaning.specs.Inside.Records.{table_to}
 use Rattle.meaning.specs.Inside.Notes.{AllNoted}
 use Rattle.meaning.proofs.Growing.{known_renamed}
-use Rattle.derive.proofs.Keeping.{marks_named}
 use Rattle.derive.proofs.Extending.{all_complete}
 use Rattle.derive.proofs.pass.work_more.Goals as goal
-
-pub name_place-name-requires : goal.name_place-name-requires
-name_place-name-requires c =
-    let pre = c.requires in
-    (pre.given.graphed.long, (omega (arith, pre.given.fit.held, pre.more), pre.complete.ids))
-
-pub extend-requires : goal.extend-requires
-extend-requires c =
-    let a = c.args in
-    let pre = c.requires in
-    let given = pre.given in
-    let r = round_in a.s.now in
-    let x = word_notes a.notes.now.words in
-    let y = byte_notes a.notes.now.octets in
-    let named = c.name_place-name in
-    let x' = word_notes named.new.notes.words in
-    record {
-      given = given;
-      within = omega (arith, pre.more);
-      marked = transport (λ i. Marks a.n r (sym named.ensures.rest i) (sym named.ensures.named i)) (marks_named a.n named.result r x y x'.idlow x'.idhigh pre.before pre.complete.marked);
-    }
 
 pub returns : goal.returns
 returns c =

@@ -1,26 +1,13 @@
 use mathlib.Core.Path.{subst}
 use Prim.Native.Nat.{ℕ}
-use native.Mathlib.Omega.{arith}
 use Rattle.protocol.specs.Table.{tabulate}
 use Rattle.round.specs.Holdings.{graph_of}
 use Rattle.roundbytes.specs.Layout.{round_in}
 use Rattle.notes.specs.Inside.Layout.{word_notes, byte_notes}
 use Rattle.scan.specs.Inside.Arrays.{Named, IdsIndexed}
 use Rattle.meaning.proofs.Growing.{known_none}
-use Rattle.meaning.proofs.Walking.{marks_none}
 use Rattle.derive.proofs.Extending.{all_complete}
 use Rattle.derive.proofs.pass.work_out.Goals as goal
-
-pub extend-requires : goal.extend-requires
-extend-requires c =
-    let a = c.args in
-    let given = c.requires in
-    let named = c.name_places in
-    record {
-      given = given;
-      within = omega arith;
-      marked = marks_none (round_in a.s.now) (word_notes named.new.notes.words) (byte_notes named.new.notes.octets);
-    }
 
 pub returns : goal.returns
 unfolding tabulate

@@ -1,22 +1,15 @@
 use native.Mathlib.Omega.{arith}
-use Rattle.round.specs.Outcomes.{Outcome}
-use borrow.Author.Rules.{rules}
-use Rattle.std.specs.Prelude.{Err}
 use Rattle.meaning.proofs.Giving.{given_of}
-use mathlib.Core.Path.{◌≡◌, ◌∙◌, ap, sym, refl}
+use mathlib.Core.Path.{◌∙◌, ap, sym}
 use Rattle.roundbytes.specs.Layout.{round_in}
 use Rattle.admission.specs.Inside.Votes.{record_of}
 use Rattle.judging.specs.Inside.Turning.{sound_row}
 use Rattle.round.specs.Rows.{message_of}
-use Rattle.engine.proofs.Taking.{taken_refused, taken_entered}
-use Rattle.digest.specs.Sha256.{sha256}
-use Rattle.answering.specs.Inside.Giving.{left}
 use Rattle.order.specs.Inside.Rows.{row_of}
 use Rattle.judging.proofs.Voting.{sound_free}
 use Rattle.engine.specs.Inside.Entering.{Enterable}
 use Rattle.base.specs.Bytes.{Octets}
-use Rattle.engine.proofs.Entering.{vote_storable, answerable, graph_then, begun_then, entered_gives}
-use Rattle.answering.proofs.Replying.{kept_on}
+use Rattle.engine.proofs.Entering.{vote_storable, answerable, graph_then, begun_then}
 use Rattle.engine.proofs.settle.settle.Goals as goal
 
 pub work_out-requires : goal.work_out-requires
@@ -24,37 +17,6 @@ work_out-requires c =
     let can = c.requires in
     let s = c.args.s.now in
     given_of s _ can.takes.passes.long c.graph_in-graph.ensures can.takes.passes.fit
-
-pub sound_row-requires : goal.sound_row-requires
-sound_row-requires c =
-    let can = c.requires in
-    let s = c.args.s.now in
-    (record { passes = can.takes.passes; read = c.graph_in-graph.ensures; worked = c.work_out.ensures }, (can.refers, can.found))
-
-pub returns-in_err-sound_row : goal.returns-in_err-sound_row
-returns-in_err-sound_row c =
-    let a = c.args in
-    let can = c.requires in
-    let s = a.s.now in
-    let r = round_in s in
-    let i = a.id.now in
-    let h = record_of r i a.vote.now in
-    let row = sound_row r i (message_of r h) in
-    let e = c.in_err-sound_row.field-0.0 in
-    let d : c.from_residual.result ≡ Err e = search rules in
-    record { given = taken_refused sha256 r i h row (left c.from_residual.result s) a.reply.now e (sym c.sound_row.ensures ∙ ap row_of c.in_err-sound_row.was) (ap (λ (o : Outcome). left o s) d); kept = (refl, refl) }
-
-pub enter_vote-p-requires : goal.enter_vote-p-requires
-enter_vote-p-requires c =
-    let a = c.args in
-    let can = c.requires in
-    let s = a.s.now in
-    let r = round_in s in
-    let i = a.id.now in
-    let h = record_of r i a.vote.now in
-    let row = sound_row r i (message_of r h) in
-    let clear = sym c.sound_row.ensures ∙ ap row_of c.in_ok-sound_row.was in
-    (record { passes = can.takes.passes; id_bytes = can.takes.id_bytes; found = can.found; free = sound_free r i (message_of r h) clear }, can.refers)
 
 pub process-requires : goal.process-requires
 process-requires c =
@@ -76,23 +38,3 @@ process-requires c =
         begun_then s octets i a.found may h store e.new.s e.result e.ensures c.held_of-n.result c.held_of-n.ensures.0 _ c.work_out.ensures,
       ),
     )
-
-pub returns : goal.returns
-returns c =
-    let a = c.args in
-    let can = c.requires in
-    let s = a.s.now in
-    let r = round_in s in
-    let i = a.id.now in
-    let h = record_of r i a.vote.now in
-    let row = sound_row r i (message_of r h) in
-    let clear = sym c.sound_row.ensures ∙ ap row_of c.in_ok-sound_row.was in
-    let may : Enterable s i a.found = record { passes = can.takes.passes; id_bytes = can.takes.id_bytes; found = can.found; free = sound_free r i (message_of r h) clear } in
-    let octets : Octets s = λ j. omega (arith, c.slice_known-1.given j) in
-    let store = vote_storable r i a.vote.now can.takes.id_bytes (λ j. omega (arith, c.type_inv.id j)) can.refers in
-    let e = c.enter_vote-p in
-    let x = c.process in record {
-      given = taken_entered sha256 r i h row (left x.result x.new.s) a.reply.now x.new.reply clear
-          (entered_gives s octets i a.found may h store e.new.s e.result e.ensures sha256 (left x.result x.new.s) a.reply.now x.new.reply x.ensures.given);
-      kept = kept_on s e.new.s x.new.s e.ensures.kept x.ensures.kept;
-    }

@@ -19,9 +19,6 @@ use Rattle.engine.proofs.Entering.{proposal_storable, answerable, entered_gives}
 use Rattle.answering.proofs.Replying.{kept_on}
 use Rattle.engine.proofs.take.take_proposal.Goals as goal
 
-pub of_another-requires : goal.of_another-requires
-of_another-requires c = c.requires.passes.long
-
 pub returns-then-of_another : goal.returns-then-of_another
 returns-then-of_another c =
     let a = c.args in
@@ -81,25 +78,6 @@ returns-then-lacks_room c =
           (proposal_row r i a.m ∙ three_full o k f (sym c.of_another.ensures ∙ c.if-of_another.false) (sym known ∙ c.if-is_known.false) (sym (c.lacks_room.ensures i c.place_of-found.ensures) ∙ c.if-lacks_room.true)) refl;
       kept = (refl, refl);
     }
-
-pub enter_proposal-p-requires : goal.enter_proposal-p-requires
-enter_proposal-p-requires c =
-    let a = c.args in
-    let can = c.requires in
-    let s = a.s.now in
-    let r = round_in s in
-    let i = a.id.now in
-    let h = offers i a.m.proposer a.m.ballot in
-    let rows = first_of (proposal_rows r i a.m) in
-    let o = other_round r a.m.house a.m.bay in
-    let k = is_known_id r i in
-    let f = full r i in
-    let found = c.place_of-found.ensures in
-    let free : f ≡ false = sym (c.lacks_room.ensures i found) ∙ c.if-lacks_room.false in
-    let may : Enterable s i c.place_of-found.result = record { passes = can.passes; id_bytes = can.id_bytes; found = found; free = subst (λ (t : Bool). T (not t)) (sym free) tt } in
-    let octets : Octets s = λ j. omega (arith, c.slice_known-1.given j) in
-    let store = proposal_storable r i a.m.proposer a.m.ballot can.id_bytes (λ j. omega (arith, c.type_inv.id j)) in
-    may
 
 pub process_offer-requires : goal.process_offer-requires
 process_offer-requires c =

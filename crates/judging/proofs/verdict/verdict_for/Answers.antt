@@ -13,6 +13,3 @@ report_for-requires c =
     let pre = c.requires in
     let given = given_of a.s.now a.graph.now pre.0.long pre.1.0 pre.0.fit in
     (record { graphed = given.graphed; few = given.fit.held; marked = c.work_out.ensures.marked }, (pre.1.1, given.learners))
-
-pub returns : goal.returns
-returns c = c.report_for.ensures c.work_out.ensures.known

@@ -23,7 +23,7 @@ use Rattle.meaning.specs.Inside.Records.{table_to}
 use Rattle.meaning.specs.Inside.Notes.{Candidate, Told}
 use Rattle.meaning.proofs.Working.{told}
 use Rattle.meaning.proofs.Passing.{lent_references, held_candidate, held_told}
-use Rattle.meaning.proofs.Walking.{covers_forks, covers_caught, covers_votes, covers_rivals, covers_backers}
+use Rattle.meaning.proofs.Walking.{covers_caught}
 use native.Mathlib.Omega.{arith}
 use Rattle.meaning.proofs.step.step.Goals as goal
 
@@ -41,20 +41,6 @@ under-u-requires c =
     let each : (j : ℕ) → j ∈ (take (references_at + max_held * a.p + n.result - (references_at + max_held * a.p)) (drop (references_at + max_held * a.p) a.s.now)) → j < max_held = λ j m. let z = g.fit.back a.p l pre.1.1 j (subst (λ (q : List ℕ). j ∈ q) same m) in omega arith in
     (g.graphed.long, entry_below (take (references_at + max_held * a.p + n.result - (references_at + max_held * a.p)) (drop (references_at + max_held * a.p) a.s.now)) max_held (omega arith) each)
 
-pub forking-forks-requires : goal.forking-forks-requires
-forking-forks-requires c =
-    let a = c.args in
-    let pre = c.requires in
-    let g = pre.0.given in
-    let few = g.fit.held in
-    let l = pre.1.0 in
-    let r = round_in a.s.now in
-    let x = word_notes a.notes.now.words in
-    let y = byte_notes a.notes.now.octets in
-    let u = c.under-u.result in
-    let w = c.walks_for-walks in
-    (g.graphed.long, record { few = omega arith; covers = covers_forks a.p r x y (omega arith) pre.0.marked u.set.low u.set.high u.ballot c.signer_at-signer.result c.name_at-link.result w.result w.ensures c.name_at-name.result })
-
 pub caught_in-others-requires : goal.caught_in-others-requires
 caught_in-others-requires c =
     let a = c.args in
@@ -68,53 +54,6 @@ caught_in-others-requires c =
     let u = c.under-u.result in
     let w = c.walks_for-walks in
     (g.graphed.long, record { few = omega arith; covers = covers_caught a.p r x y (omega arith) pre.0.marked u.set.low u.set.high u.ballot c.signer_at-signer.result c.name_at-link.result w.result w.ensures })
-
-pub learners_of-l-requires : goal.learners_of-l-requires
-learners_of-l-requires c =
-    c.requires.0.given.graphed.long
-
-pub opposing-against-requires : goal.opposing-against-requires
-opposing-against-requires c =
-    let a = c.args in
-    let pre = c.requires in
-    let g = pre.0.given in
-    let few = g.fit.held in
-    let l = pre.1.0 in
-    let r = round_in a.s.now in
-    let x = word_notes a.notes.now.words in
-    let y = byte_notes a.notes.now.octets in
-    let u = c.under-u.result in
-    let w = c.walks_for-walks in
-    let sig = c.signer_at-signer.result in
-    let link = c.name_at-link.result in (
-      record {
-        long = g.graphed.long;
-        few = omega arith;
-        votes = λ q. covers_votes a.p r x y (omega arith) pre.0.marked u.set.low u.set.high u.ballot sig link w.result w.ensures q;
-        rivals = λ q. covers_rivals a.p r x y (omega arith) pre.0.marked u.set.low u.set.high u.ballot sig link w.result w.ensures q c.value-v.result;
-      },
-      omega (arith, g.learners, c.count_if-firsts.ensures.1, c.learners_of-l.ensures.0),
-    )
-
-pub fresh_for-free-requires : goal.fresh_for-free-requires
-fresh_for-free-requires c =
-    let g = c.requires.0.given in
-    let n = c.learners_of-l.ensures.0 in
-    (omega (arith, g.learners, c.count_if-firsts.ensures.1, n), omega (arith, g.learners, n))
-
-pub learners_for-learned-requires : goal.learners_for-learned-requires
-learners_for-learned-requires c =
-    let a = c.args in
-    let pre = c.requires in
-    let g = pre.0.given in
-    let few = g.fit.held in
-    let l = pre.1.0 in
-    let r = round_in a.s.now in
-    let x = word_notes a.notes.now.words in
-    let y = byte_notes a.notes.now.octets in
-    let u = c.under-u.result in
-    let w = c.walks_for-walks in
-    (g.graphed.acceptors, (record { long = g.graphed.long; few = omega arith; backers = covers_backers a.p r x y (omega arith) pre.0.marked u.set.low u.set.high u.ballot w.result.backers.low w.result.backers.high w.ensures.backing }, omega (arith, g.learners, c.count_if-seconds.ensures.1, c.learners_of-l.ensures.0)))
 
 pub returns : goal.returns
 returns c =

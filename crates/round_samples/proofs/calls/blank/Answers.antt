@@ -4,4 +4,4 @@ use Rattle.round_samples.proofs.calls.blank.Goals as goal
 
 pub returns : goal.returns
 unfolding blanks
-returns c = refl
+returns g c = refl

@@ -59,7 +59,7 @@ module _ (r b s after : List ℕ) (e : s ≡ blanks 4138) where
 pub returns-then-differing-ne0 : goal.returns-then-differing-ne0
 returns-then-differing-ne0 c =
     let a = c.args in
-    let z = nothing_written a.round.bytes a.bytes.now c.short-reply.result c.deliver-outcome.new.reply c.short-reply.ensures c.deliver-outcome.ensures.1.1 in
+    let z = nothing_written a.round.bytes a.bytes.now c.blank-reply.result c.deliver-outcome.new.reply c.blank-reply.ensures c.deliver-outcome.ensures.1.1 in
     absurd (c.if-differing-ne0.true (c.differing.ensures ∙ z))
 
 pub returns : goal.returns
@@ -68,4 +68,4 @@ returns c =
     c.outcome_number.ensures
     ∙ ap
     (λ (o : Outcome). outcome_in64 o)
-    (c.deliver-outcome.ensures.0 ∙ refused_so a.round.bytes a.bytes.now c.short-reply.result [] c.short-reply.ensures)
+    (c.deliver-outcome.ensures.0 ∙ refused_so a.round.bytes a.bytes.now c.blank-reply.result [] c.blank-reply.ensures)

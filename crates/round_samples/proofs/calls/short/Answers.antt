@@ -1,7 +1,0 @@
-use Rattle.std.proofs.Common.{refl}
-use Rattle.round_samples.specs.Calls.{blanks}
-use Rattle.round_samples.proofs.calls.short.Goals as goal
-
-pub returns : goal.returns
-unfolding blanks
-returns c = refl
