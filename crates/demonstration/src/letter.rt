@@ -1,5 +1,8 @@
 // The messages that the parties send each other.
-ghost use Rattle.std.specs.Prelude.{◌≡◌, ◌≢◌};
+ghost use Rattle.std.specs.Prelude.{◌≡◌, ◌≢◌, IfOk, take};
+ghost use Rattle.base.specs.Ballots.{ballot_of};
+ghost use Rattle.digest.specs.Sha256.{sha256};
+ghost use Rattle.message.specs.Writer.{proposal_bytes, proposal_of};
 
 use crate::tell::Refused;
 use digest::sha256;
@@ -77,7 +80,10 @@ pub struct Letter {
 
 impl Letter {
     // The proposal of a round number and a value.
-    pub fn proposal(alloc: Global, proposer: u8, round: u32, value: u32) -> anyhow::Result<Letter> {
+    pub fn proposal(alloc: Global, proposer: u8, round: u32, value: u32) -> anyhow::Result<Letter>
+        ensures message { IfOk result (λ l. l.message.items ≡ proposal_bytes (proposal_of HOUSE BAY proposer round value)) }
+        ensures told { IfOk result (λ l. (l.kind ≡ Kind.Proposal) × ((l.sender ≡ Name.Proposer proposer) × (l.ballot ≡ ballot_of round value))) }
+    {
         let mut message = [0u8; PROPOSAL_LEN];
         write_proposal(HOUSE, BAY, proposer, round, value, &mut message).map_err(Refused)?;
         Ok(Letter {
@@ -89,7 +95,11 @@ impl Letter {
     }
 
     // What the liar replies to this letter: a 1b that names no previous message, or a 2a that names the 1b beneath it.
-    pub fn forged(&self, alloc: Global) -> Result<Letter, AllocError> {
+    pub fn forged(&self, alloc: Global) -> Result<Letter, AllocError>
+        ensures answer { self.now.kind ≡ Kind.Proposal → IfOk result (λ l. l.kind ≡ Kind.Answer) }
+        ensures vote { self.now.kind ≢ Kind.Proposal → IfOk result (λ l. l.kind ≡ Kind.Vote) }
+        ensures told { IfOk result (λ l. (l.sender ≡ Name.Controller LIAR) × (l.ballot ≡ self.now.ballot)) }
+    {
         let id = self.id();
         let mut bytes = [0u8; MAX_LEN];
         let len = match self.kind {
@@ -109,7 +119,12 @@ impl Letter {
         len: usize,
         sender: Name,
         ballot: u64,
-    ) -> Result<Letter, AllocError> {
+    ) -> Result<Letter, AllocError>
+        ensures message { IfOk result (λ l. l.message.items ≡ take len bytes.now) }
+        ensures answer { self.now.kind ≡ Kind.Proposal → IfOk result (λ l. l.kind ≡ Kind.Answer) }
+        ensures vote { self.now.kind ≢ Kind.Proposal → IfOk result (λ l. l.kind ≡ Kind.Vote) }
+        ensures told { IfOk result (λ l. (l.sender ≡ sender) × (l.ballot ≡ ballot)) }
+    {
         Ok(Letter {
             message: bytes.iter().copied().take(len).collect(alloc)?,
             kind: self.kind.reply(),
@@ -119,7 +134,9 @@ impl Letter {
     }
 
     // The hash by which other messages refer to this one.
-    pub fn id(&self) -> [u8; 32] {
+    pub fn id(&self) -> [u8; 32]
+        ensures { result ≡ sha256 self.now.message.items }
+    {
         sha256(&self.message)
     }
 }

@@ -1,4 +1,7 @@
 // A party's side: its round, as the calls keep it.
+ghost use Rattle.std.specs.Prelude.{◌≡◌, IfOk, IfSome, replicate};
+ghost use Rattle.engine.specs.Calls.{open_to, deliver_to, report_answer};
+
 use crate::letter::{BAY, HOUSE, Kind, Letter, Name};
 use crate::tell::{Page, Refused, Response};
 use message::layout::MAX_LEN;
@@ -30,16 +33,22 @@ pub struct Party {
 }
 
 impl Party {
-    pub fn controller(number: u8) -> anyhow::Result<Party> {
+    pub fn controller(number: u8) -> anyhow::Result<Party>
+        ensures { IfOk result (λ p. (p.name ≡ Name.Controller number) × (p.round ≡ open_to PLAN HOUSE BAY number (replicate ROUND_LEN 0))) }
+    {
         Party::new(Name::Controller(number), u32::from(number))
     }
 
     // A grower's round only listens.
-    pub fn grower(number: u8) -> anyhow::Result<Party> {
+    pub fn grower(number: u8) -> anyhow::Result<Party>
+        ensures { IfOk result (λ p. (p.name ≡ Name.Grower number) × (p.round ≡ open_to PLAN HOUSE BAY LISTENING (replicate ROUND_LEN 0))) }
+    {
         Party::new(Name::Grower(number), u32::from(LISTENING))
     }
 
-    fn new(name: Name, own: u32) -> anyhow::Result<Party> {
+    fn new(name: Name, own: u32) -> anyhow::Result<Party>
+        ensures { IfOk result (λ p. (p.name ≡ name) × (p.round ≡ open_to PLAN HOUSE BAY own (replicate ROUND_LEN 0))) }
+    {
         let mut round = [0u8; ROUND_LEN];
         engine::open(&PLAN, HOUSE, BAY, own, &mut round).map_err(Refused)?;
         Ok(Party {
@@ -50,7 +59,10 @@ impl Party {
     }
 
     // Delivers a letter's message to the round.
-    pub fn deliver(&mut self, alloc: Global, letter: &Letter) -> Result<Response, AllocError> {
+    pub fn deliver(&mut self, alloc: Global, letter: &Letter) -> Result<Response, AllocError>
+        ensures round { self.new.round ≡ deliver_to self.old.round letter.now.message.items (replicate MAX_LEN 0) }
+        ensures name { self.new.name ≡ self.old.name }
+    {
         let mut reply = [0u8; MAX_LEN];
         match engine::deliver(&mut self.round, &letter.message, &mut reply) {
             Ok(Some(len)) => {
@@ -69,12 +81,16 @@ impl Party {
         }
     }
 
-    fn builds_on(&mut self, letter: &Letter) {
+    fn builds_on(&mut self, letter: &Letter)
+        ensures { (self.new.round ≡ self.old.round) × (self.new.name ≡ self.old.name) }
+    {
         self.ballot = self.ballot.max(letter.ballot);
     }
 
     // The vent page of a grower; a controller has none.
-    pub fn page(&self) -> Option<Page> {
+    pub fn page(&self) -> Option<Page>
+        ensures { IfSome result (λ p. (self.now.name ≡ Name.Grower p.grower) × (p.report ≡ report_answer self.now.round p.grower)) }
+    {
         match self.name {
             Name::Grower(grower) => Some(Page {
                 grower,
