@@ -2,3 +2,5 @@
 pub mod Finding
 -- A start is what the rules say of an opening
 pub mod Opening
+-- The places of a vote, at the front of an array
+pub mod Votes

@@ -12,20 +12,47 @@ ghost use Rattle.round.specs.Rows.{ids_from, reference_ids, previous_id, placed,
 ghost use Rattle.round.specs.Delivery.{previous_place};
 ghost use Rattle.roundbytes.specs.Layout.{round_len, round_in};
 ghost use Rattle.admission.specs.Inside.Finding.{Bounded, Listed, Inside, place_found, places_of};
+ghost use Rattle.admission.specs.Inside.Votes.{refers_to, vote_of};
 
 use crate::lookup::{place_at, same_id};
 use arrayvec::ArrayVec;
+use base::put_all;
 use message::AcceptorMessage;
 use message::layout::{ID_LEN, PREVIOUS_AT, PROPOSAL, references_at};
 use round::{MAX_HELD, NO_PLACE};
 use roundbytes::readers::{kind_at, known_at, signer_at};
 
-// What a round holds of an acceptor message: the place of its previous message or NO_PLACE, and those of its references.
-#[derive(Drop)]
+// What a round holds of an acceptor message: the place of its previous message or NO_PLACE, and those of its references, the first `count`.
+#[derive(Clone, Copy)]
 pub struct Vote {
     pub signer: u8,
     pub previous: u8,
-    pub places: ArrayVec<u8, MAX_HELD>,
+    pub count: usize,
+    pub places: [u8; MAX_HELD],
+}
+
+impl Vote {
+    // The vote of a signer that refers to these places.
+    pub fn new(signer: u8, previous: u8, places: &[u8]) -> Vote
+        requires { length places.now ≤ max_held }
+        ensures { result ≡ vote_of signer previous places.now }
+    {
+        let mut all = [0; MAX_HELD];
+        put_all(&mut all, 0, places);
+        Vote {
+            signer,
+            previous,
+            count: places.len(),
+            places: all,
+        }
+    }
+
+    // The places that it refers to: all that there are, where it counts more.
+    pub fn places(&self) -> &[u8]
+        ensures { result.now ≡ refers_to self.now }
+    {
+        &self.places[..self.count.min(MAX_HELD)]
+    }
 }
 
 // Row 10: whether a message is known already, by what was found for its id.

@@ -16,7 +16,8 @@ use Rattle.holding.specs.declared.reply.Reply.{Reply}
 use Rattle.holding.specs.Inside.Replying.{reply_of}
 use Rattle.round.specs.Reply.{reply_places, reply_record, reply_bytes, is_sent}
 use Rattle.round.proofs.Chosen.{chosen_most, reply_some, chosen_out}
-use Rattle.admission.specs.Inside.Votes.{record_of}
+use Rattle.admission.specs.Inside.Votes.{record_of, refers_to}
+use Rattle.admission.proofs.Votes.{vote_refers}
 use Rattle.round.specs.Delivery.{previous_place, Effect, Delivered, processed, answered}
 use Rattle.round.specs.Holdings.{named, is_voting, graph_of}
 use Rattle.round.proofs.Marking.{previous_named, named_placed, previous_fits}
@@ -35,7 +36,7 @@ use Rattle.meaning.specs.declared.Note.{Note}
 use Rattle.meaning.specs.Inside.Notes.{Judged}
 
 -- a part from the front
-front_part : (n : ℕ) (l : List ℕ) → take (n - 0) (drop 0 l) ≡ take n l
+pub front_part : (n : ℕ) (l : List ℕ) → take (n - 0) (drop 0 l) ≡ take n l
 front_part n l = let e : n - 0 ≡ n = omega arith in ap (λ (k : ℕ). take k l) e
 
 -- ---- z, the reply of a round to the message at place p
@@ -43,8 +44,8 @@ module _ (r : Round) (f : Fitting r) (p : ℕ) (here : p < r.held) (z : Reply) (
   few : length (reply_places r p) ≤ r.held
   few = chosen_most r p r.held
 
-  listed : z.vote.places.items ≡ reply_places r p
-  listed = ap (λ (x : Reply). x.vote.places.items) is
+  listed : refers_to z.vote ≡ reply_places r p
+  listed = vote_refers z.vote r.own (previous_place r (named r r.last)) (reply_places r p) (ap (λ (x : Reply). x.vote) is)
 
   back : z.vote.previous ≡ previous_place r (named r r.last)
   back = ap (λ (x : Reply). x.vote.previous) is

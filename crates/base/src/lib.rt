@@ -99,5 +99,7 @@ pub fn put_all(buf: &mut [u8], at: usize, src: &[u8])
     requires { at + length src.now ≤ length buf.old }
     ensures { buf.new ≡ put_at buf.old at src.now }
 {
-    buf[at..at + src.len()].copy_from_slice(src);
+    for i in 0..src.len() {
+        buf[at + i] = src[i];
+    }
 }

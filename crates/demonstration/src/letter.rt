@@ -1,15 +1,15 @@
 // The messages that the parties send each other.
-ghost use Rattle.std.specs.Prelude.{◌≡◌, ◌≢◌, IfOk, take};
+ghost use Rattle.std.specs.Prelude.{◌≡◌, ◌≢◌, ◌≤◌, ◌↔◌, [], length, take, IsOk, IfOk};
 ghost use Rattle.base.specs.Ballots.{ballot_of};
 ghost use Rattle.digest.specs.Sha256.{sha256};
 ghost use Rattle.message.specs.Writer.{proposal_bytes, proposal_of};
 
-use crate::tell::Refused;
+use crate::failure::Failure;
+use arrayvec::{ArrayVec, CapacityError};
 use digest::sha256;
 use message::ballot::{ballot_of, round_of, value_of};
 use message::layout::{MAX_LEN, PROPOSAL_LEN};
 use message::{write_acceptor, write_proposal};
-use std::alloc::{AllocError, Global};
 use std::fmt;
 
 pub const HOUSE: u16 = 1;
@@ -71,23 +71,37 @@ impl fmt::Display for Name {
 // A message on its way, and what is told of it.
 #[derive(Debug, Drop)]
 pub struct Letter {
-    pub message: Vec<u8>,
+    pub message: ArrayVec<u8, MAX_LEN>,
     pub kind: Kind,
     pub sender: Name,
     // The ballot of the proposal beneath the message.
     pub ballot: u64,
 }
 
+// What stands where a site has no letter yet.
+impl Default for Letter {
+    ghost is_default = { λ l. l.message.items ≡ [] };
+
+    fn default() -> Letter {
+        Letter {
+            message: ArrayVec::new(),
+            kind: Kind::Proposal,
+            sender: Name::Proposer(0),
+            ballot: 0,
+        }
+    }
+}
+
 impl Letter {
     // The proposal of a round number and a value.
-    pub fn proposal(alloc: Global, proposer: u8, round: u32, value: u32) -> anyhow::Result<Letter>
+    pub fn proposal(proposer: u8, round: u32, value: u32) -> Result<Letter, Failure>
         ensures message { IfOk result (λ l. l.message.items ≡ proposal_bytes (proposal_of HOUSE BAY proposer round value)) }
         ensures told { IfOk result (λ l. (l.kind ≡ Kind.Proposal) × ((l.sender ≡ Name.Proposer proposer) × (l.ballot ≡ ballot_of round value))) }
     {
-        let mut message = [0u8; PROPOSAL_LEN];
-        write_proposal(HOUSE, BAY, proposer, round, value, &mut message).map_err(Refused)?;
+        let mut bytes = [0u8; PROPOSAL_LEN];
+        write_proposal(HOUSE, BAY, proposer, round, value, &mut bytes)?;
         Ok(Letter {
-            message: Vec::from_slice(alloc, &message)?,
+            message: ArrayVec::try_from(&bytes[..]).unwrap(),
             kind: Kind::Proposal,
             sender: Name::Proposer(proposer),
             ballot: ballot_of(round, value),
@@ -95,10 +109,10 @@ impl Letter {
     }
 
     // What the liar replies to this letter: a 1b that names no previous message, or a 2a that names the 1b beneath it.
-    pub fn forged(&self, alloc: Global) -> Result<Letter, AllocError>
-        ensures answer { self.now.kind ≡ Kind.Proposal → IfOk result (λ l. l.kind ≡ Kind.Answer) }
-        ensures vote { self.now.kind ≢ Kind.Proposal → IfOk result (λ l. l.kind ≡ Kind.Vote) }
-        ensures told { IfOk result (λ l. (l.sender ≡ Name.Controller LIAR) × (l.ballot ≡ self.now.ballot)) }
+    pub fn forged(&self) -> Letter
+        ensures answer { self.now.kind ≡ Kind.Proposal → result.kind ≡ Kind.Answer }
+        ensures vote { self.now.kind ≢ Kind.Proposal → result.kind ≡ Kind.Vote }
+        ensures told { (result.sender ≡ Name.Controller LIAR) × (result.ballot ≡ self.now.ballot) }
     {
         let id = self.id();
         let mut bytes = [0u8; MAX_LEN];
@@ -108,25 +122,27 @@ impl Letter {
                 HOUSE, BAY, LIAR, &id, &id, b"\x00", 1, &mut bytes,
             ),
         };
-        self.reply(alloc, &bytes, len, Name::Controller(LIAR), self.ballot)
+        self.reply(&bytes, len, Name::Controller(LIAR), self.ballot)
+            .unwrap()
     }
 
-    // The reply to this letter: the first `len` of these bytes.
+    // The reply to this letter: the first `len` of these bytes. It fails only where they are more than the longest message has.
     pub fn reply(
         &self,
-        alloc: Global,
         bytes: &[u8],
         len: usize,
         sender: Name,
         ballot: u64,
-    ) -> Result<Letter, AllocError>
+    ) -> Result<Letter, CapacityError>
         ensures message { IfOk result (λ l. l.message.items ≡ take len bytes.now) }
         ensures answer { self.now.kind ≡ Kind.Proposal → IfOk result (λ l. l.kind ≡ Kind.Answer) }
         ensures vote { self.now.kind ≢ Kind.Proposal → IfOk result (λ l. l.kind ≡ Kind.Vote) }
         ensures told { IfOk result (λ l. (l.sender ≡ sender) × (l.ballot ≡ ballot)) }
+        ensures variant { IsOk result ↔ (length (take len bytes.now) ≤ MAX_LEN) }
     {
+        let end = len.min(bytes.len());
         Ok(Letter {
-            message: bytes.iter().copied().take(len).collect(alloc)?,
+            message: ArrayVec::try_from(&bytes[..end])?,
             kind: self.kind.reply(),
             sender,
             ballot,

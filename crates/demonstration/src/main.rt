@@ -2,11 +2,12 @@
 // The library's calls decide everything; this program carries the messages, and tells what it carries.
 #![tactic(auto)]
 
-use anyhow::Result;
 use party::PLAN;
 use site::Site;
+use std::io;
 use tell::{KINDS, LIE, NO_VOTE, PUSH, RETURNS, Refused, SITE, WHY};
 
+mod failure;
 mod letter;
 mod party;
 mod site;
@@ -29,28 +30,26 @@ const REST: [u8; 21] = [
     0x3a, 0x39, 0x32, 0x51, 0x53,
 ];
 
-fn main(rt: HostRuntime) -> Result<()> {
+fn main(rt: HostRuntime) -> io::Result<()> {
     tell_plan(&rt)?;
-    let mut site = Site::new(rt.alloc())?;
+    let mut site = Site::new()?;
     agree(&rt, &mut site)?;
     outbid(&rt, &mut site)?;
-    rt.println(WHY)?;
-    Ok(())
+    rt.println(WHY)
 }
 
 // Who is there, whether the trust plan is accepted, and how to read the lines that follow.
-fn tell_plan(rt: &impl Print) -> Result<()> {
+fn tell_plan(rt: &impl Print) -> io::Result<()> {
     rt.println(SITE)?;
     match graphfile::check(&PLAN) {
         Ok(()) => println!(rt; "The trust plan is accepted.")?,
         Err(refusal) => println!(rt; "The trust plan is {}", Refused(refusal))?,
     }
-    rt.println(KINDS)?;
-    Ok(())
+    rt.println(KINDS)
 }
 
 // Round 5 offers 70 percent, and decides for one grower.
-fn agree(rt: &impl Print, site: &mut Site) -> Result<()> {
+fn agree(rt: &impl Print, site: &mut Site) -> io::Result<()> {
     rt.println(LIE)?;
     site.play(rt, &ROUND_5)?;
     rt.println(RETURNS)?;
@@ -59,7 +58,7 @@ fn agree(rt: &impl Print, site: &mut Site) -> Result<()> {
 }
 
 // Round 6 offers 40 percent, too late: what is left of round 5 decides for the others.
-fn outbid(rt: &impl Print, site: &mut Site) -> Result<()> {
+fn outbid(rt: &impl Print, site: &mut Site) -> io::Result<()> {
     rt.println(PUSH)?;
     site.play(rt, &ROUND_6)?;
     rt.println(NO_VOTE)?;

@@ -2,12 +2,12 @@
 ghost use Rattle.std.specs.Prelude.{◌≡◌, IfOk, IfSome, replicate};
 ghost use Rattle.engine.specs.Calls.{open_to, deliver_to, report_answer};
 
+use crate::failure::Failure;
 use crate::letter::{BAY, HOUSE, Kind, Letter, Name};
-use crate::tell::{Page, Refused, Response};
+use crate::tell::{Page, Response};
 use message::layout::MAX_LEN;
 use round::LISTENING;
 use roundbytes::ROUND_LEN;
-use std::alloc::{AllocError, Global};
 
 // The trust plan as a graph file.
 pub const PLAN: [u8; 44] = [
@@ -33,24 +33,24 @@ pub struct Party {
 }
 
 impl Party {
-    pub fn controller(number: u8) -> anyhow::Result<Party>
+    pub fn controller(number: u8) -> Result<Party, Failure>
         ensures { IfOk result (λ p. (p.name ≡ Name.Controller number) × (p.round ≡ open_to PLAN HOUSE BAY number (replicate ROUND_LEN 0))) }
     {
         Party::new(Name::Controller(number), u32::from(number))
     }
 
     // A grower's round only listens.
-    pub fn grower(number: u8) -> anyhow::Result<Party>
+    pub fn grower(number: u8) -> Result<Party, Failure>
         ensures { IfOk result (λ p. (p.name ≡ Name.Grower number) × (p.round ≡ open_to PLAN HOUSE BAY LISTENING (replicate ROUND_LEN 0))) }
     {
         Party::new(Name::Grower(number), u32::from(LISTENING))
     }
 
-    fn new(name: Name, own: u32) -> anyhow::Result<Party>
+    fn new(name: Name, own: u32) -> Result<Party, Failure>
         ensures { IfOk result (λ p. (p.name ≡ name) × (p.round ≡ open_to PLAN HOUSE BAY own (replicate ROUND_LEN 0))) }
     {
         let mut round = [0u8; ROUND_LEN];
-        engine::open(&PLAN, HOUSE, BAY, own, &mut round).map_err(Refused)?;
+        engine::open(&PLAN, HOUSE, BAY, own, &mut round)?;
         Ok(Party {
             name,
             round,
@@ -59,7 +59,7 @@ impl Party {
     }
 
     // Delivers a letter's message to the round.
-    pub fn deliver(&mut self, alloc: Global, letter: &Letter) -> Result<Response, AllocError>
+    pub fn deliver(&mut self, letter: &Letter) -> Response
         ensures round { self.new.round ≡ deliver_to self.old.round letter.now.message.items (replicate MAX_LEN 0) }
         ensures name { self.new.name ≡ self.old.name }
     {
@@ -67,17 +67,17 @@ impl Party {
         match engine::deliver(&mut self.round, &letter.message, &mut reply) {
             Ok(Some(len)) => {
                 self.builds_on(letter);
-                let reply = letter.reply(alloc, &reply, len, self.name, self.ballot)?;
-                Ok(Response(Ok(Some(reply))))
+                let reply = letter.reply(&reply, len, self.name, self.ballot).unwrap();
+                Response(Ok(Some(reply)))
             }
             Ok(None) => {
                 // A proposal that gets no reply is not built on.
                 if letter.kind != Kind::Proposal {
                     self.builds_on(letter);
                 }
-                Ok(Response(Ok(None)))
+                Response(Ok(None))
             }
-            Err(refusal) => Ok(Response(Err(refusal))),
+            Err(refusal) => Response(Err(refusal)),
         }
     }
 

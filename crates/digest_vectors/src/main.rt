@@ -2,7 +2,7 @@
 // The expected digests are the published ones and, for the edges, those of the tool sha256sum.
 #![tactic(auto)]
 
-ghost use Rattle.std.specs.Prelude.{◌≤◌};
+ghost use Rattle.std.specs.Prelude.{◌≡◌, ◌+◌, ◌%◌, ◌^◌, ◌≤◌};
 
 use digest::sha256;
 use hex::FromHex;
@@ -10,16 +10,28 @@ use std::io;
 use tally::Tally;
 
 fn main(rt: HostRuntime) -> io::Result<()> {
+    let t = vectors();
+    println!(rt; "{} vectors, {} failed", t.run, t.failed)
+}
+
+// All the vectors.
+fn vectors() -> Tally
+    ensures run { result.run ≡ 15 }
+    ensures failed { result.failed ≤ 15 }
+{
     let mut t = Tally::new();
     published(&mut t);
     padding_edges(&mut t);
     block_edges(&mut t);
     two_block_edges(&mut t);
-    println!(rt; "{} vectors, {} failed", t.run, t.failed)
+    t
 }
 
 // One vector more: the digest of message is to be this one, in hexadecimal digits.
-fn tried(t: &mut Tally, message: &[u8], expected: &str) {
+fn tried(t: &mut Tally, message: &[u8], expected: &str)
+    ensures run { t.new.run ≡ (t.old.run + 1) % 2 ^ 64 }
+    ensures failed { t.new.failed ≤ t.old.failed + 1 }
+{
     t.tried(<[u8; 32]>::from_hex(expected) == Ok(sha256(message)));
 }
 
@@ -29,7 +41,10 @@ fn million() -> [u8; 1000000] {
 }
 
 // The published vectors: the empty message, "abc", the messages of 448 and of 896 bits, a million letters "a".
-fn published(t: &mut Tally) {
+fn published(t: &mut Tally)
+    ensures run { t.new.run ≡ (t.old.run + 5) % 2 ^ 64 }
+    ensures failed { t.new.failed ≤ t.old.failed + 5 }
+{
     let many = million();
     tried(
         t,
@@ -70,13 +85,18 @@ fn ascending() -> [u8; 128] {
 // One vector more: the first n of those bytes.
 fn edge(t: &mut Tally, n: usize, expected: &str)
     requires { n ≤ 128 }
+    ensures run { t.new.run ≡ (t.old.run + 1) % 2 ^ 64 }
+    ensures failed { t.new.failed ≤ t.old.failed + 1 }
 {
     let s = ascending();
     tried(t, &s[..n], expected);
 }
 
 // Lengths at which the padding just fits into the first block, or just does not.
-fn padding_edges(t: &mut Tally) {
+fn padding_edges(t: &mut Tally)
+    ensures run { t.new.run ≡ (t.old.run + 3) % 2 ^ 64 }
+    ensures failed { t.new.failed ≤ t.old.failed + 3 }
+{
     edge(
         t,
         55,
@@ -95,7 +115,10 @@ fn padding_edges(t: &mut Tally) {
 }
 
 // Lengths at which the message just fills the first block, or just does not.
-fn block_edges(t: &mut Tally) {
+fn block_edges(t: &mut Tally)
+    ensures run { t.new.run ≡ (t.old.run + 3) % 2 ^ 64 }
+    ensures failed { t.new.failed ≤ t.old.failed + 3 }
+{
     edge(
         t,
         63,
@@ -114,7 +137,10 @@ fn block_edges(t: &mut Tally) {
 }
 
 // Both one block later.
-fn two_block_edges(t: &mut Tally) {
+fn two_block_edges(t: &mut Tally)
+    ensures run { t.new.run ≡ (t.old.run + 4) % 2 ^ 64 }
+    ensures failed { t.new.failed ≤ t.old.failed + 4 }
+{
     edge(
         t,
         119,

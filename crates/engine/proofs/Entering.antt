@@ -9,7 +9,6 @@ use lib.Dec.{le→leb, T, leb, lt→ltb}
 use mathlib.Core.Bool.{not, ◌&&◌}
 use mathlib.Core.List.{List}
 use mathlib.Core.Logic.{inr, inl}
-use Rattle.arrayvec.specs.ArrayVec.{array_vec_len}
 use Rattle.round.specs.Round.{Round}
 use Rattle.protocol.specs.Ids.{Id}
 use Rattle.message.specs.Layout.{id_len}
@@ -19,7 +18,7 @@ use Rattle.protocol.specs.Table.{offers, held_id, held_previous, places, offered
 use Rattle.round.proofs.Marking.{previous_fits, returned_fitting}
 use Rattle.admission.specs.declared.rows.Vote.{Vote}
 use Rattle.judging.specs.Inside.Referring.{Referring}
-use Rattle.admission.specs.Inside.Votes.{record_of}
+use Rattle.admission.specs.Inside.Votes.{record_of, refers_to}
 use Rattle.round.specs.Handed.{place_fits, fits}
 use Rattle.round.specs.Holdings.{named, is_voting, is_known, place_of}
 use Rattle.round.specs.Rows.{full, placed}
@@ -56,7 +55,7 @@ vote_storable r i v e o refers =
       id_size = e;
       id_bytes = o;
       most = refers.most;
-      some' = le→leb 1 (array_vec_len v.places) refers.least;
+      some' = le→leb 1 (length (refers_to v)) refers.least;
       earlier = refers.earlier;
       placed = subst (λ (p : ℕ). T (place_fits r p)) refers.lowest refers.placed;
       previous = ap (named r) (sym refers.lowest);

@@ -4,7 +4,7 @@ ghost use Rattle.base.specs.Tests.{any, all, below};
 ghost use Rattle.base.specs.Sets.{has, contains};
 ghost use Rattle.graph.specs.Limits.{lists, max_learners};
 ghost use Rattle.graph.specs.LearnerGraph.{condensed_at, condensed};
-ghost use Rattle.graph.specs.Memory.{list_of, view_of};
+ghost use Rattle.graph.specs.Memory.{list_of, held_graph, view_of, GraphSized};
 
 use crate::lists::pair_list;
 use crate::{Graph, Mask};
@@ -33,7 +33,12 @@ impl Graph {
         requires { (self.now.learners ≤ max_learners) × ((a < max_learners) × (b < max_learners)) }
         ensures { result ≡ all (λ c. condensed_at (view_of self.now) a b c) (below self.now.learners) }
     {
-        (0..usize::from(self.learners)).all(|c| self.condensed_at(a, b, c))
+        for c in (0..usize::from(self.learners)).rev() {
+            if !self.condensed_at(a, b, c) {
+                return false;
+            }
+        }
+        true
     }
 
     // The same for every b.
@@ -41,7 +46,12 @@ impl Graph {
         requires { (self.now.learners ≤ max_learners) × (a < max_learners) }
         ensures { result ≡ all (λ b. all (λ c. condensed_at (view_of self.now) a b c) (below self.now.learners)) (below self.now.learners) }
     {
-        (0..usize::from(self.learners)).all(|b| self.condensed_pair(a, b))
+        for b in (0..usize::from(self.learners)).rev() {
+            if !self.condensed_pair(a, b) {
+                return false;
+            }
+        }
+        true
     }
 
     // Row 7: whether the graph is condensed.
@@ -49,6 +59,19 @@ impl Graph {
         requires { self.now.learners ≤ max_learners }
         ensures { result ≡ condensed (view_of self.now) }
     {
-        (0..usize::from(self.learners)).all(|a| self.condensed_row(a))
+        for a in (0..usize::from(self.learners)).rev() {
+            if !self.condensed_row(a) {
+                return false;
+            }
+        }
+        true
     }
+}
+
+// Row 7 of lists alone, in slices as long as the arrays of a graph.
+pub fn is_condensed<'a>(counts: &'a [u8], masks: &'a [Mask], acceptors: u8, learners: usize) -> bool
+    requires { (learners ≤ max_learners) × GraphSized counts.now masks.now }
+    ensures { result ≡ condensed (held_graph acceptors learners counts.now masks.now) }
+{
+    Graph::held(counts, masks, acceptors, learners).is_condensed()
 }

@@ -10,7 +10,7 @@ pub mod valid;
 ghost use Rattle.std.specs.Prelude.{◌≡◌, ◌≤◌};
 ghost use Rattle.graph.specs.Limits.{max_learners};
 ghost use Rattle.graph.specs.Answers.{graph_answer};
-ghost use Rattle.graph.specs.Memory.{view_of};
+ghost use Rattle.graph.specs.Memory.{held_graph, view_of, GraphSized};
 
 // A set of acceptors: bit p is acceptor p.
 pub type Mask = u32;
@@ -39,6 +39,22 @@ pub struct Graph {
 }
 
 impl Graph {
+    // The graph of these lists.
+    fn held(counts: &[u8], masks: &[Mask], acceptors: u8, learners: usize) -> Graph
+        requires { (learners ≤ max_learners) × GraphSized counts.now masks.now }
+        ensures { view_of result ≡ held_graph acceptors learners counts.now masks.now }
+    {
+        let mut graph = Graph {
+            acceptors,
+            learners: learners as u8,
+            counts: [0; LISTS],
+            masks: [0; MASK_SLOTS],
+        };
+        graph.counts.copy_from_slice(counts);
+        graph.masks.copy_from_slice(masks);
+        graph
+    }
+
     // Rows 6 and 7: `is_valid`, then `is_condensed`. All three ask for at most MAX_LEARNERS learners: whoever calls them has put the lists of a file
     // into a graph, and has no answer to give a second test.
     pub fn judge(&self) -> Result<(), Refusal>
@@ -53,4 +69,17 @@ impl Graph {
         }
         Ok(())
     }
+}
+
+// Rows 6 and 7 of lists alone, in slices as long as the arrays of a graph.
+pub fn graph_answer<'a>(
+    counts: &'a [u8],
+    masks: &'a [Mask],
+    acceptors: u8,
+    learners: usize,
+) -> Result<(), Refusal>
+    requires { (learners ≤ max_learners) × GraphSized counts.now masks.now }
+    ensures { result ≡ graph_answer (held_graph acceptors learners counts.now masks.now) }
+{
+    Graph::held(counts, masks, acceptors, learners).judge()
 }

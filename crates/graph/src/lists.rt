@@ -1,12 +1,12 @@
 // The lists of masks of a graph. Sets are masks, joined, met and compared.
 // These serve this crate and those above it, and ask for learners and lists in range: whoever calls them holds a graph that was read, or a round
 // that passed row 17, and has no answer to give a second test.
-ghost use Rattle.std.specs.Prelude.{◌≡◌, ◌-◌, ◌^◌, ◌≤◌, ◌<◌, min, get_or};
+ghost use Rattle.std.specs.Prelude.{◌≡◌, ℕ, ◌-◌, ◌^◌, ◌≤◌, ◌<◌, min, get_or};
 ghost use Rattle.base.specs.Tests.{any};
 ghost use Rattle.base.specs.Sets.{has, contains, apart};
 ghost use Rattle.graph.specs.Limits.{lists, max_learners, max_masks, mask_bits};
 ghost use Rattle.graph.specs.LearnerGraph.{is_quorum, safe_without};
-ghost use Rattle.graph.specs.Memory.{triangle, list_of, pair_list, view_of};
+ghost use Rattle.graph.specs.Memory.{triangle, list_of, pair_list, held_graph, view_of};
 ghost use Rattle.graph.specs.Inside.Asking.{within};
 
 use crate::{Graph, MASK_BITS, MAX_LEARNERS, MAX_MASKS, Mask};
@@ -33,7 +33,12 @@ pub fn within(mask: Mask, set: Mask) -> bool
 pub fn some_within(list: &[Mask], set: Mask) -> bool
     ensures { result ≡ any (within set) list.now }
 {
-    list.iter().any(|mask| within(*mask, set))
+    for mask in list {
+        if within(*mask, set) {
+            return true;
+        }
+    }
+    false
 }
 
 // 1 + 2 + .. + b.
@@ -88,7 +93,8 @@ impl Graph {
     // Whether a set is a quorum of learner a.
     pub fn is_quorum(&self, a: usize, set: Mask) -> bool
         requires { a < max_learners }
-        ensures { result ≡ is_quorum (view_of self.now) a (has set) }
+        ensures own { result ≡ is_quorum (view_of self.now) a (has set) }
+        ensures any_learners { (l : ℕ) → result ≡ is_quorum (held_graph self.now.acceptors l self.now.counts self.now.masks) a (has set) }
     {
         self.some_contained(a, set)
     }
@@ -96,7 +102,8 @@ impl Graph {
     // Whether a listed safe mask of the pair a-b has no acceptor of the set.
     pub fn safe_without(&self, a: usize, b: usize, set: Mask) -> bool
         requires { (a < max_learners) × (b < max_learners) }
-        ensures { result ≡ safe_without (view_of self.now) a b (has set) }
+        ensures own { result ≡ safe_without (view_of self.now) a b (has set) }
+        ensures any_learners { (l : ℕ) → result ≡ safe_without (held_graph self.now.acceptors l self.now.counts self.now.masks) a b (has set) }
     {
         self.some_apart(pair_list(a, b), set)
     }

@@ -4,7 +4,7 @@ ghost use Rattle.std.specs.Prelude.{◌≡◌, ◌≤◌, ◌<◌};
 ghost use Rattle.base.specs.Tests.{all, below};
 ghost use Rattle.graph.specs.Limits.{max_learners};
 ghost use Rattle.graph.specs.LearnerGraph.{common, valid_at, valid};
-ghost use Rattle.graph.specs.Memory.{list_of, view_of};
+ghost use Rattle.graph.specs.Memory.{list_of, held_graph, view_of, GraphSized};
 
 use crate::lists::pair_list;
 use crate::{Graph, Mask};
@@ -33,7 +33,12 @@ impl Graph {
         requires { (self.now.learners ≤ max_learners) × (a < max_learners) }
         ensures { result ≡ all (λ b. valid_at (view_of self.now) a b) (below self.now.learners) }
     {
-        (0..usize::from(self.learners)).all(|b| self.valid_at(a, b))
+        for b in (0..usize::from(self.learners)).rev() {
+            if !self.valid_at(a, b) {
+                return false;
+            }
+        }
+        true
     }
 
     // Row 6: whether the graph is valid.
@@ -41,6 +46,19 @@ impl Graph {
         requires { self.now.learners ≤ max_learners }
         ensures { result ≡ valid (view_of self.now) }
     {
-        (0..usize::from(self.learners)).all(|a| self.valid_row(a))
+        for a in (0..usize::from(self.learners)).rev() {
+            if !self.valid_row(a) {
+                return false;
+            }
+        }
+        true
     }
+}
+
+// Row 6 of lists alone, in slices as long as the arrays of a graph.
+pub fn is_valid<'a>(counts: &'a [u8], masks: &'a [Mask], acceptors: u8, learners: usize) -> bool
+    requires { (learners ≤ max_learners) × GraphSized counts.now masks.now }
+    ensures { result ≡ valid (held_graph acceptors learners counts.now masks.now) }
+{
+    Graph::held(counts, masks, acceptors, learners).is_valid()
 }

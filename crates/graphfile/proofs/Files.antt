@@ -90,7 +90,7 @@ module _ (s : List ℕ) (b : Graph) (long : lists_at ≤ length s) where
             (past (no x) (after_no (hold_rows 0) g₁ g₂ (read_rows s n l [] at) r₂ x pairs_now e)).2
 
         -- the contents of the file are in memory
-        all_read : (end : ℕ) → r₂ ≡ Ok end → (f : Contents) × (read_graph s n l lists_at ≡ pick (eqb end (length s)) (got f end) (no Length)) × (g₂ ≡ with_lists b (held_in (lists_in b) f))
+        pub all_read : (end : ℕ) → r₂ ≡ Ok end → (f : Contents) × (read_graph s n l lists_at ≡ pick (eqb end (length s)) (got f end) (no Length)) × (g₂ ≡ with_lists b (held_in (lists_in b) f))
         all_read end e =
             let (rows, g, w) = after_got (hold_rows 0) g₁ g₂ (read_rows s n l [] at) r₂ end pairs_now e in
             let (qs, v, c) = past (got rows end) g in

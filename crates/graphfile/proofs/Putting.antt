@@ -9,17 +9,28 @@ use native.Mathlib.Omega.{arith}
 use borrow.Author.Tests.{ltb-true, leb-true}
 use lib.Dec.{leb}
 use lib.ListN.{length, get_or, take, drop, length-append, length-drop, length-take, drop_of_length-le}
-use lib.Seq.{get_or-drop, drop-cons, drop_at, length-take-le}
+use lib.Seq.{slice, length-slice, get_or-drop, drop-cons, drop_at, length-take-le}
 use Rattle.base.specs.Tests.{all}
 use Rattle.base.specs.Bytes.{bytes, put_at}
 use Rattle.base.proofs.Bytes.{bytes_length, put_at_none, put_at_more}
 use Rattle.graph.specs.declared.Graph.{Graph}
 use Rattle.graph.specs.Limits.{version, max_learners, max_masks, mask_bytes, lists}
-use Rattle.graph.specs.Memory.{held_graph, list_of, pair_list, triangle}
+use Rattle.graph.specs.Memory.{held_graph, list_of, pair_list, triangle, GraphSized}
+use Rattle.graph.proofs.Memory.{list_is}
 use Rattle.graphfile.specs.File.{outer_len, version_at, acceptors_at, learners_at, lists_at, Contents}
 use Rattle.graphfile.specs.Writer.{masks_bytes, list_bytes, lists_bytes, rows_bytes, body_bytes, file_bytes, listed, rows_from, contents_of, few_masks, fits_mask, sayable}
 use Rattle.graphfile.specs.Inside.Steps.{MasksFit, Room, PutIn}
 use Rattle.graphfile.proofs.View.{triangle_up}
+
+-- ---- a test over what is left of a list
+module _ (f : ℕ → Bool) (l : List ℕ) where
+  pub all_next : (i : ℕ) → i < length l → all f (drop i l) ≡ (f (get_or l i 0) && all f (drop (i + 1) l))
+  unfolding all
+  all_next i h = ap (all f) (drop-cons l i 0 h) ∙ ap (λ (k : ℕ). f (get_or l i 0) && all f (drop k l)) (sym (add-one i))
+
+  pub all_end : (i : ℕ) → length l ≤ i → all f (drop i l) ≡ true
+  unfolding all
+  all_end i h = ap (all f) (drop_of_length-le l {i = i} h)
 
 pub masks_fit : (l : List ℕ) → all fits_mask l ≡ true → MasksFit l
 unfolding all
@@ -220,6 +231,26 @@ module _ (list : List ℕ) (at : ℕ) (b : List ℕ) where
 
   pub masks_all : (i here : ℕ) (x : List ℕ) → MasksPut list at b i here x → length list ≤ i → PutIn (list_bytes list) at here b x
   masks_all i here x P h = putting_all (list_bytes list) (masks_bytes (drop i list)) at here b x P (masks_none list i h)
+
+-- the same of a list where it stands among all masks, with its masks put in at once
+module _ (counts masks : List ℕ) (k n : ℕ) (z : GraphSized counts masks) (lk : k < lists) (e : n ≡ min (get_or counts k 0) max_masks) where
+  list_bytes_lem : list_bytes (list_of counts masks k) ≡ n ∷ masks_bytes (slice (max_masks * k) (max_masks * k + n) masks)
+  list_bytes_lem =
+      let s = slice (max_masks * k) (max_masks * k + n) masks in
+      let l = z.1 in
+      let m : length s ≡ n = length-slice (max_masks * k) (max_masks * k + n) masks (omega arith) ∙ omega arith in
+      ap list_bytes (list_is counts masks k n e) ∙ ap (λ (j : ℕ). j ∷ masks_bytes s) m
+
+  pub masks_room : (at m : ℕ) → at + length (list_bytes (list_of counts masks k)) ≤ m → at + 1 + length (masks_bytes (slice (max_masks * k) (max_masks * k + n) masks)) ≤ m
+  masks_room at m h = let l = ap length list_bytes_lem in omega arith
+
+  pub list_put : (at r : ℕ) (b x y : List ℕ) → at + length (list_bytes (list_of counts masks k)) ≤ length b → x ≡ put_at b at (n ∷ [])
+      → PutIn (masks_bytes (slice (max_masks * k) (max_masks * k + n) masks)) (at + 1) r x y → PutIn (list_bytes (list_of counts masks k)) at r b y
+  list_put at r b x y h p q =
+      let w = list_bytes (list_of counts masks k) in
+      let s = masks_bytes (slice (max_masks * k) (max_masks * k + n) masks) in
+      let P₁ = putting_more w w at at b b (putting_none w at b) (n ∷ []) s x (at + 1) h list_bytes_lem (record { behind = refl; held = p }) in
+      putting_all w [] at r b y (putting_more w s at (at + 1) b x P₁ s [] y r h (sym (append-nil s)) q) refl
 
 -- what a file can say of all masks it can say of each list
 fits_take : (n : ℕ) (l : List ℕ) → MasksFit l → MasksFit (take n l)

@@ -37,6 +37,11 @@ unfolding last
 last_get [] = refl
 last_get (x ∷ l) = let e : length l ≡ suc (length l) - 1 = omega arith in last_behind 0 x l ∙ ap (λ (k : ℕ). get_or (x ∷ l) k 0) e
 
+pub last_snoc : (d : ℕ) (l : List ℕ) (m : ℕ) → last d (l ++ (m ∷ [])) ≡ m
+unfolding last
+last_snoc d [] m = refl
+last_snoc d (x ∷ l) m = last_snoc x l m
+
 -- what was put in is there
 pub part_put : (b l m : List ℕ) (first j : ℕ) → m ≡ put_at b first l → length l ≡ j → first + j ≤ length b → slice first (first + j) m ≡ l
 part_put b l m first j e f h =
@@ -165,6 +170,11 @@ module _ (s : List ℕ) (n : ℕ) where
       record { inside = i; count = omega arith; enough = omega arith; small = omega arith; ends = q; masks = subst (λ (x : ℕ). read_masks s n x [] (at + 1) ≡ got l next) p' g' }
 
 -- ---- what a step's answer says of what was read
+pub held_got : (first : ℕ) (b a : List ℕ) (g : Got (List ℕ)) (f : Result ℕ Refusal) (next : ℕ) → MasksHeld g f first b a → f ≡ Ok next
+    → (l : List ℕ) × (g ≡ got l next) × (a ≡ put_at b first l)
+held_got first b a (got l m) f next h e = let p : m ≡ next = cc h.0 in (l, ap (got l) p, h.1)
+held_got first b a (no r) f next h e = let z : ◌≡◌ {A = ℕ} 0 1 = cc in absurd (omega arith)
+
 module _ {A : Type 0} (put : A → ListArrays → ListArrays) (b h : Graph) where
   pub after_got : (g : Got A) (f : Result ℕ Refusal) (next : ℕ) → HeldAfter g put f b h → f ≡ Ok next → (x : A) × (g ≡ got x next) × (h ≡ with_lists b (put x (lists_in b)))
   after_got (got x m) f next p e = let q : m ≡ next = cc p.0 in (x, ap (got x) q, p.1)
@@ -247,6 +257,12 @@ module _ (s : List ℕ) (low total at first : ℕ) (f : ℕ → ℕ) (before : G
   filled_no k r q x g h l p e d =
       promised_no (hold_all f first) before h (read_lists s before.acceptors low total [] at) q x d
       (go_on (no x) l (after_no (hold k) after g (read_list s before.acceptors low here) r x (filled_now k r g p) e))
+
+  pub filled_got : (k : ℕ) (r : Result ℕ Refusal) (next : ℕ) (g : Graph) → i < total → HeldAfter (read_list s after.acceptors low here) (hold k) r after g → r ≡ Ok next
+      → (l : List ℕ) × ListGot s before.acceptors low here l next
+  filled_got k r next g h p e =
+      let (l, d, q) = after_got (hold k) after g (read_list s before.acceptors low here) r next (filled_now k r g p) e in
+      (l, list_got s before.acceptors low here l next d)
 
   pub filled_more : (k : ℕ) (r : Result ℕ Refusal) (next : ℕ) (g : Graph) → i < total → k ≡ f (first + i) → HeldAfter (read_list s after.acceptors low here) (hold k) r after g → r ≡ Ok next
       → Filled s low total at first f before next (i + 1) g

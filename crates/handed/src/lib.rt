@@ -39,7 +39,7 @@ fn list_fits(s: &[u8], learners: usize, pairs: usize, k: usize) -> bool
     requires { Counted s.now learners pairs k }
     ensures { result ≡ list_fits (round_in s.now).graph k }
 {
-    !in_use(learners, pairs, k) || s[LIST_COUNTS_AT + k] <= MOST_MASKS
+    s[LIST_COUNTS_AT + k] <= MOST_MASKS || !in_use(learners, pairs, k)
 }
 
 // Whether each list of the graph that is in use has at most eight masks.

@@ -1,2 +1,4 @@
 -- Laws of the reply
 pub mod Replying
+-- A place pushed and put in
+pub mod Pushed

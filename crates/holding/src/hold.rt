@@ -63,8 +63,9 @@ pub fn hold_vote(s: &mut [u8], id: &[u8], vote: &Vote, known: u8)
     ensures kept { Kept s.old s.new }
 {
     let place = held_of(s);
-    let count = vote.places.len();
-    put_all(s, REFERENCES_AT + MAX_HELD * place, &vote.places);
+    let places = vote.places();
+    let count = places.len();
+    put_all(s, REFERENCES_AT + MAX_HELD * place, places);
     put_row(
         s,
         id,

@@ -5,13 +5,13 @@ use mathlib.Core.List.{List}
 use mathlib.Core.Path.{◌≡◌, subst, sym, ap, ◌∙◌}
 use lib.Dec.{T}
 use mathlib.Core.Bool.{Bool, not, true, false}
-use Rattle.arrayvec.specs.ArrayVec.{array_vec_len}
+use lib.ListN.{length}
 use native.Mathlib.Omega.{arith}
 use Rattle.round.specs.Round.{Round}
 use Rattle.round.specs.Limits.{max_held}
 use Rattle.protocol.specs.Ids.{Id}
 use Rattle.admission.specs.declared.rows.Vote.{Vote}
-use Rattle.admission.specs.Inside.Votes.{Resolves, record_of}
+use Rattle.admission.specs.Inside.Votes.{Resolves, record_of, refers_to}
 use Rattle.order.specs.Inside.Rows.{chain_row, form_row, head_row, row_of}
 use Rattle.round.specs.Rows.{lacks, unchained, is_known_id, vote_record, full, other_round, foreign, reference_ids, previous_id, message_of, first_of, acceptor_rows}
 use Rattle.base.specs.Tests.{all, ◌∈◌}
@@ -57,7 +57,7 @@ module _ (r : Round) (most : r.held ≤ max_held) (signer : ℕ) (previous : Opt
   voted i = λ k. says i (found.signed k) (back k) (found.listed k)
 
   -- it refers to held messages, and its previous message is none or held
-  pub referring : 1 ≤ array_vec_len v.places → array_vec_len v.places ≤ max_held → Referring r v
+  pub referring : 1 ≤ length (refers_to v) → length (refers_to v) ≤ max_held → Referring r v
   referring least few =
       record {
         least = least;

@@ -1,14 +1,14 @@
 // Rows 8 to 16 of the table "When a call is turned down", for a message that was read. The round stands in the bytes s. What was found for the
 // message's ids is handed in, so that no id is looked up among the held ones twice.
 ghost use Rattle.std.specs.Prelude.{◌≡◌, ◌≤◌, IfOk, length};
-ghost use Rattle.arrayvec.specs.ArrayVec.{array_vec_len};
 ghost use Rattle.protocol.specs.Ids.{Id};
 ghost use Rattle.meaning.specs.Inside.Notes.{Judged};
+ghost use Rattle.round.specs.Limits.{max_held};
 ghost use Rattle.round.specs.Holdings.{graph_of, place_of};
 ghost use Rattle.round.specs.Rows.{other_round, foreign, is_known_id, reference_ids, previous_id, lacks, unchained, message_of, full};
 ghost use Rattle.roundbytes.specs.Layout.{round_len, round_in};
 ghost use Rattle.admission.specs.Inside.Finding.{Bounded, Listed, Inside, place_found};
-ghost use Rattle.admission.specs.Inside.Votes.{record_of, Resolves};
+ghost use Rattle.admission.specs.Inside.Votes.{refers_to, record_of, Resolves};
 ghost use Rattle.judging.specs.Inside.Standing.{AtHand};
 ghost use Rattle.judging.specs.Inside.Referring.{Referring};
 ghost use Rattle.order.specs.Inside.Rows.{row_of, head_row, chain_row};
@@ -51,16 +51,13 @@ pub fn chain_row(s: &[u8], bytes: &[u8], m: AcceptorMessage) -> Result<Vote, Ref
     requires { Bounded s.now × Listed bytes.now m }
     ensures ruled { row_of result ≡ chain_row (lacks (round_in s.now) (reference_ids bytes.now m)) (unchained (round_in s.now) m.signer (reference_ids bytes.now m) (previous_id bytes.now m)) }
     ensures resolved { IfOk result (λ vote. Resolves (round_in s.now) m.signer (previous_id bytes.now m) (reference_ids bytes.now m) vote) }
-    ensures counted { IfOk result (λ vote. array_vec_len vote.places ≡ m.count) }
+    ensures counted { IfOk result (λ vote. length (refers_to vote) ≡ m.count) }
+    ensures whole { IfOk result (λ vote. (vote.count ≡ m.count) × (length vote.places ≡ max_held)) }
 {
     let references = resolve(s, bytes, m);
     let back = previous_of(s, bytes, m);
     let (places, previous) = order::rows::chain_row(references, back)?;
-    Ok(Vote {
-        signer: m.signer,
-        previous,
-        places,
-    })
+    Ok(Vote::new(m.signer, previous, &places))
 }
 
 // Row 16, by what was found for the message's id.
@@ -77,7 +74,7 @@ pub fn judge_vote(s: &[u8], graph: &Graph, notes: &Notes, id: &[u8], vote: &Vote
     requires { AtHand s.now graph.now notes.now × Referring (round_in s.now) vote.now }
     ensures { Judged (graph_of (round_in s.now)) (message_of (round_in s.now) (record_of (round_in s.now) id.now vote.now)) result }
 {
-    judge(s, graph, notes, id, vote.previous, &vote.places)
+    judge(s, graph, notes, id, vote.previous, vote.places())
 }
 
 // Rows 14 to 16 of such a message, by what was found for its id.

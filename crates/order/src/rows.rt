@@ -2,9 +2,7 @@
 ghost use Rattle.std.specs.Prelude.{◌≡◌, IfOk, Some, is_none};
 ghost use Rattle.order.specs.Inside.Rows.{row_of, head_row, chain_row, form_row};
 
-use arrayvec::ArrayVec;
 use base::refusal::Refusal;
-use round::MAX_HELD;
 
 // Rows 8 to 10: the message is for another house or bay, the graph lacks its signer, it is known already.
 pub fn head_row(other: bool, foreign: bool, known: bool) -> Result<(), Refusal>
@@ -24,10 +22,10 @@ pub fn head_row(other: bool, foreign: bool, known: bool) -> Result<(), Refusal>
 
 // Rows 11 and 12: a reference is not known, the previous message is not named rightly. What was found for each is handed in, None where its row
 // applies: the places of the references, and that of the previous message.
-pub fn chain_row(
-    places: Option<ArrayVec<u8, MAX_HELD>>,
-    previous: Option<u8>,
-) -> Result<(ArrayVec<u8, MAX_HELD>, u8), Refusal>
+pub fn chain_row<T: Drop, U: Drop>(
+    places: Option<T>,
+    previous: Option<U>,
+) -> Result<(T, U), Refusal>
     ensures ruled { row_of result ≡ chain_row (is_none places) (is_none previous) }
     ensures found { IfOk result (λ x. (places ≡ Some x.0) × (previous ≡ Some x.1)) }
 {

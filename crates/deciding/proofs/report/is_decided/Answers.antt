@@ -22,4 +22,4 @@ returns c =
     let y = byte_notes a.notes.now.octets in
     let g = start.requires.0.graphed in
     let few = subst (λ (h : Graph). h.acceptors ≤ mask_bits) g.same g.acceptors in
-    c.is_quorum.ensures ∙ ap (λ (h : Graph). is_quorum (view_of h) a.a (has c.voters-set.result)) g.same ∙ quorum_cong (graph_of r) a.a (has c.voters-set.result) (voters_for r x y a.a a.x) (λ p h. c.voters-set.ensures p (omega arith))
+    c.is_quorum.ensures.own ∙ ap (λ (h : Graph). is_quorum (view_of h) a.a (has c.voters-set.result)) g.same ∙ quorum_cong (graph_of r) a.a (has c.voters-set.result) (voters_for r x y a.a a.x) (λ p h. c.voters-set.ensures p (omega arith))

@@ -1,17 +1,25 @@
-use mathlib.Core.Path.{◌∙◌}
+use mathlib.Core.Path.{◌≡◌, refl, ap, sym, ◌∙◌}
 use Prim.Native.Nat.{ℕ}
-use native.Mathlib.Omega.{arith}
-use Rattle.std.proofs.Common.{rules, tests}
-use Rattle.std.proofs.lemmas.Iterator.{YieldsList-from_range}
-use Rattle.std.proofs.lemmas.Iterator.Search.{all_from_yields_List}
-use Rattle.graph.specs.LearnerGraph.{condensed_at}
+use Rattle.base.specs.Tests.{all, below}
+use Rattle.base.proofs.Tests.{below_here, below_past}
 use Rattle.graph.specs.Memory.{view_of}
-use Rattle.graph.proofs.Chains.{all_range}
+use Rattle.graph.specs.LearnerGraph.{condensed_at}
+use native.Mathlib.Omega.{arith}
 use Rattle.graph.proofs.Graph.condensed_pair.Goals as goal
 
+pub loop-c-init : goal.loop-c-init
+loop-c-init c = let a = c.args in let e = c.from-c.ensures in
+    (omega (arith, e), ap (λ (j : ℕ). all (λ c. condensed_at (view_of a.self.now) a.a a.b c) (below j)) (sym e))
+
+pub returns-then-not-condensed_at : goal.returns-then-not-condensed_at
+returns-then-not-condensed_at c = let a = c.args in let l = c.loop-c in
+    sym (l.invariant.1 ∙ below_here (λ c. condensed_at (view_of a.self.now) a.a a.b c) l.c c.loop-c-test.true (sym c.condensed_at.ensures ∙ c.if-not-condensed_at.true))
+
+pub loop-c-preserved : goal.loop-c-preserved
+loop-c-preserved c = let a = c.args in let l = c.loop-c in
+    (omega arith, l.invariant.1 ∙ below_past (λ c. condensed_at (view_of a.self.now) a.a a.b c) l.c c.loop-c-test.true (sym c.condensed_at.ensures ∙ c.if-not-condensed_at.false))
+
 pub returns : goal.returns
-returns c =
-    let a = c.args in let g = a.self.now in
-    let test = λ (d : ℕ). condensed_at (view_of g) a.a a.b d in
-    all_from_yields_List test _ _ _ c.all.ensures.ran (YieldsList-from_range 0 g.learners g.learners (cc) (omega arith)) (λ x b q w. search (rules, tests))
-    ∙ all_range test g.learners
+unfolding all below
+returns c = let a = c.args in let l = c.loop-c in let e : l.c ≡ 0 = omega arith in
+    sym (l.invariant.1 ∙ ap (λ (j : ℕ). all (λ c. condensed_at (view_of a.self.now) a.a a.b c) (below j)) e)

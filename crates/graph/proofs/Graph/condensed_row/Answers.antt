@@ -1,18 +1,25 @@
-use mathlib.Core.Path.{◌∙◌}
+use mathlib.Core.Path.{◌≡◌, refl, ap, sym, ◌∙◌}
 use Prim.Native.Nat.{ℕ}
-use native.Mathlib.Omega.{arith}
-use Rattle.std.proofs.Common.{rules, tests}
-use Rattle.std.proofs.lemmas.Iterator.{YieldsList-from_range}
-use Rattle.std.proofs.lemmas.Iterator.Search.{all_from_yields_List}
 use Rattle.base.specs.Tests.{all, below}
-use Rattle.graph.specs.LearnerGraph.{condensed_at}
+use Rattle.base.proofs.Tests.{below_here, below_past}
 use Rattle.graph.specs.Memory.{view_of}
-use Rattle.graph.proofs.Chains.{all_range}
+use Rattle.graph.specs.LearnerGraph.{condensed_at}
+use native.Mathlib.Omega.{arith}
 use Rattle.graph.proofs.Graph.condensed_row.Goals as goal
 
+pub loop-b-init : goal.loop-b-init
+loop-b-init c = let a = c.args in let e = c.from-b.ensures in
+    (omega (arith, e), ap (λ (j : ℕ). all (λ b. all (λ c. condensed_at (view_of a.self.now) a.a b c) (below a.self.now.learners)) (below j)) (sym e))
+
+pub returns-then-not-condensed_pair : goal.returns-then-not-condensed_pair
+returns-then-not-condensed_pair c = let a = c.args in let l = c.loop-b in
+    sym (l.invariant.1 ∙ below_here (λ b. all (λ c. condensed_at (view_of a.self.now) a.a b c) (below a.self.now.learners)) l.b c.loop-b-test.true (sym c.condensed_pair.ensures ∙ c.if-not-condensed_pair.true))
+
+pub loop-b-preserved : goal.loop-b-preserved
+loop-b-preserved c = let a = c.args in let l = c.loop-b in
+    (omega arith, l.invariant.1 ∙ below_past (λ b. all (λ c. condensed_at (view_of a.self.now) a.a b c) (below a.self.now.learners)) l.b c.loop-b-test.true (sym c.condensed_pair.ensures ∙ c.if-not-condensed_pair.false))
+
 pub returns : goal.returns
-returns c =
-    let a = c.args in let g = a.self.now in
-    let test = λ (b : ℕ). all (λ d. condensed_at (view_of g) a.a b d) (below g.learners) in
-    all_from_yields_List test _ _ _ c.all.ensures.ran (YieldsList-from_range 0 g.learners g.learners (cc) (omega arith)) (λ x b q w. search (rules, tests))
-    ∙ all_range test g.learners
+unfolding all below
+returns c = let a = c.args in let l = c.loop-b in let e : l.b ≡ 0 = omega arith in
+    sym (l.invariant.1 ∙ ap (λ (j : ℕ). all (λ b. all (λ c. condensed_at (view_of a.self.now) a.a b c) (below a.self.now.learners)) (below j)) e)

@@ -3,4 +3,4 @@ use Rattle.graph.proofs.Graph.is_quorum.Goals as goal
 
 pub returns : goal.returns
 unfolding is_quorum
-returns c = c.some_contained.ensures
+returns c = record { own = c.some_contained.ensures; any_learners = λ l. c.some_contained.ensures }

@@ -4,6 +4,9 @@ use lib.ListN.{length}
 use mathlib.Core.Path.{◌≡◌, ◌∙◌, ap, subst}
 use native.Mathlib.Omega.{arith}
 use mathlib.Core.Option.{Option}
+use borrow.Author.Rules.{rules}
+use Rattle.admission.specs.Inside.Votes.{refers_to}
+use Rattle.admission.proofs.Votes.{refers_most}
 use Rattle.roundbytes.specs.Layout.{round_len, references_at, round_in}
 use Rattle.round.specs.Limits.{max_held}
 use Rattle.base.specs.Bytes.{put_at}
@@ -32,11 +35,18 @@ behind s t v id n signer previous count known p h w e f g =
 pub put_all-requires : goal.put_all-requires
 put_all-requires c =
     let p = c.requires.0 in
+    let v = c.args.vote.now in
     let e = c.held_of-place.ensures.0 in
-    omega (arith, p.long, p.room, c.deref.ensures.1)
+    let places : length v.places ≡ max_held = search rules in
+    let l = ap length c.places-places.ensures in
+    omega (arith, p.long, p.room, refers_most v places)
 
 pub overflow_cast-count : goal.overflow_cast-count
-overflow_cast-count c = record { fits = omega (arith, c.len-count.ensures.fits) }
+overflow_cast-count c =
+    let v = c.args.vote.now in
+    let places : length v.places ≡ max_held = search rules in
+    let l = ap length c.places-places.ensures in
+    record { fits = omega (arith, refers_most v places) }
 
 pub put_row-requires : goal.put_row-requires
 put_row-requires c =
@@ -44,7 +54,9 @@ put_row-requires c =
     let p = c.requires.0 in
     let s = a.s.now in
     let t = c.put_all.new.buf in
-    let w = referred s t c.deref.result.now c.held_of-place.result p.long (omega (arith, p.room, c.held_of-place.ensures.0)) (omega (arith, c.deref.ensures.1)) c.put_all.ensures in
+    let places : length a.vote.now.places ≡ max_held = search rules in
+    let l = ap length c.places-places.ensures in
+    let w = referred s t c.places-places.result.now c.held_of-place.result p.long (omega (arith, p.room, c.held_of-place.ensures.0)) (omega (arith, refers_most a.vote.now places)) c.put_all.ensures in
     let m : length t ≡ length s = w.kept.0 in
     let k : (round_in t).held ≡ (round_in s).held = ap (λ (r : Round). r.held) (round_then s t p.long w) ∙ ap (λ (r : Round). r.held) (of_parts s p.long) in
     record { long = omega (arith, p.long); room = omega (arith, p.room); id_bytes = p.id_bytes }
@@ -57,10 +69,12 @@ returns c =
     let v = a.vote.now in
     let t = c.put_all.new.buf in
     let n = c.held_of-place in
-    let w = referred s t v.places.items n.result p.0.long (omega (arith, p.0.room, n.ensures.0)) (omega (arith, c.len-count.ensures.fits))
-    (subst (λ (x : List ℕ). t ≡ put_at s (references_at + max_held * n.result) x) c.deref.ensures.0 c.put_all.ensures) in
+    let places : length v.places ≡ max_held = search rules in
+    let l = ap length c.places-places.ensures in
+    let w = referred s t (refers_to v) n.result p.0.long (omega (arith, p.0.room, n.ensures.0)) (refers_most v places)
+    (subst (λ (x : List ℕ). t ≡ put_at s (references_at + max_held * n.result) x) c.places-places.ensures c.put_all.ensures) in
     let k = c.put_row.ensures.kept in
     record {
-      held = c.put_row.ensures.held ∙ behind s t v.places.items a.id.now n.result v.signer v.previous _ a.known (named (round_in s) v.previous) p.0.long w n.ensures.0 p.1 c.len-count.ensures.value;
+      held = c.put_row.ensures.held ∙ behind s t (refers_to v) a.id.now n.result v.signer v.previous _ a.known (named (round_in s) v.previous) p.0.long w n.ensures.0 p.1 l;
       kept = (k.0 ∙ w.kept.0, k.1 ∙ w.kept.1);
     }

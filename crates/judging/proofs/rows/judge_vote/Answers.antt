@@ -19,7 +19,7 @@ judge-requires c =
     record {
       given = given_of a.s.now a.graph.now p.0.passes.long p.0.read p.0.passes.fit;
       complete = p.0.worked;
-      earlier = λ j k. refers.earlier j (subst (λ (y : List ℕ). j ∈ y) c.deref.ensures.0 k);
+      earlier = λ j k. refers.earlier j (subst (λ (y : List ℕ). j ∈ y) c.places.ensures k);
       linked = place_cases (round_in a.s.now) a.vote.now.previous refers.placed;
     }
 
@@ -29,4 +29,4 @@ returns c =
     let r = round_in a.s.now in
     let i = a.id.now in
     let v = a.vote.now in
-    subst (λ (y : List ℕ). Judged (graph_of r) (message_of r (says i v.signer (named r v.previous) y)) c.judge.result) c.deref.ensures.0 (c.judge.ensures v.signer)
+    subst (λ (y : List ℕ). Judged (graph_of r) (message_of r (says i v.signer (named r v.previous) y)) c.judge.result) c.places.ensures (c.judge.ensures v.signer)

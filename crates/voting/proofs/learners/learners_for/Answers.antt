@@ -35,7 +35,7 @@ loop-a-preserved c =
     let l = c.loop-a in
     let g = view_of a.graph.now in
     let sets = c.backers-sets.result in
-    (omega arith, λ q. put_again (λ x. is_quorum g x (has (get_or sets x 0))) (λ x. x) l.a q c.is_quorum-on.result _ _ (c.with_learner-mask.ensures q) c.is_quorum-on.ensures (l.invariant.1 q))
+    (omega arith, λ q. put_again (λ x. is_quorum g x (has (get_or sets x 0))) (λ x. x) l.a q c.is_quorum-on.result _ _ (c.with_learner-mask.ensures q) c.is_quorum-on.ensures.own (l.invariant.1 q))
 
 pub returns : goal.returns
 returns c =

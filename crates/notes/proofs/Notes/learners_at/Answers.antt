@@ -1,6 +1,0 @@
-use mathlib.Core.Path.{sym}
-use Rattle.notes.proofs.Fields.{learners_at_lem}
-use Rattle.notes.proofs.Notes.learners_at.Goals as goal
-
-pub returns : goal.returns
-returns c = let a = c.args in sym (learners_at_lem a.self.now.octets a.p c.requires)

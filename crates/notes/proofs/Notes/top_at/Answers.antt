@@ -1,6 +1,0 @@
-use mathlib.Core.Path.{sym}
-use Rattle.notes.proofs.Fields.{tops_at_lem}
-use Rattle.notes.proofs.Notes.top_at.Goals as goal
-
-pub returns : goal.returns
-returns c = let a = c.args in sym (tops_at_lem a.self.now.words a.p c.requires)

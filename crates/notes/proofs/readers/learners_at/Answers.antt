@@ -1,0 +1,6 @@
+use mathlib.Core.Path.{sym}
+use Rattle.notes.proofs.Fields.{learners_at_lem}
+use Rattle.notes.proofs.readers.learners_at.Goals as goal
+
+pub returns : goal.returns
+returns c = let a = c.args in sym (learners_at_lem a.octets.now a.p c.requires.1)
