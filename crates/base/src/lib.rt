@@ -94,7 +94,7 @@ pub fn put64(buf: &mut [u8], at: usize, x: u64)
     put_number(buf, at, 8, x);
 }
 
-// All of src put in.
+// All of src put in, by a loop: `copy_from_slice` would have the archive ask its host for `memmove` (DECISIONS 74).
 pub fn put_all(buf: &mut [u8], at: usize, src: &[u8])
     requires { at + length src.now ≤ length buf.old }
     ensures { buf.new ≡ put_at buf.old at src.now }

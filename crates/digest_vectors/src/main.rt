@@ -2,7 +2,9 @@
 // The expected digests are the published ones and, for the edges, those of the tool sha256sum.
 #![tactic(auto)]
 
-ghost use Rattle.std.specs.Prelude.{◌≡◌, ◌+◌, ◌%◌, ◌^◌, ◌≤◌};
+ghost use Rattle.std.specs.Prelude.{◌≡◌, ◌≢◌, ◌+◌, ◌%◌, ◌^◌, ◌≤◌, Ok};
+ghost use Rattle.digest.specs.Sha256.{sha256};
+ghost use Rattle.hex.specs.Hex.{decode_sized};
 
 use digest::sha256;
 use hex::FromHex;
@@ -31,6 +33,8 @@ fn vectors() -> Tally
 fn tried(t: &mut Tally, message: &[u8], expected: &str)
     ensures run { t.new.run ≡ (t.old.run + 1) % 2 ^ 64 }
     ensures failed { t.new.failed ≤ t.old.failed + 1 }
+    ensures passes { decode_sized expected.now 32 ≡ Ok (sha256 message.now) → t.new.failed ≡ t.old.failed }
+    ensures fails { decode_sized expected.now 32 ≢ Ok (sha256 message.now) → t.new.failed ≡ (t.old.failed + 1) % 2 ^ 64 }
 {
     t.tried(<[u8; 32]>::from_hex(expected) == Ok(sha256(message)));
 }

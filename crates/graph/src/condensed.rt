@@ -28,7 +28,7 @@ impl Graph {
         self.list(ab).iter().all(|s| self.joins(bc, ac, *s))
     }
 
-    // The same for every c.
+    // The same for every c, from the last down (DECISIONS 75).
     fn condensed_pair(&self, a: usize, b: usize) -> bool
         requires { (self.now.learners ≤ max_learners) × ((a < max_learners) × (b < max_learners)) }
         ensures { result ≡ all (λ c. condensed_at (view_of self.now) a b c) (below self.now.learners) }

@@ -28,7 +28,7 @@ impl Graph {
         self.list(k).iter().all(|s| self.meets(a, b, *s))
     }
 
-    // The same for every b.
+    // The same for every b, from the last down (DECISIONS 75).
     fn valid_row(&self, a: usize) -> bool
         requires { (self.now.learners ≤ max_learners) × (a < max_learners) }
         ensures { result ≡ all (λ b. valid_at (view_of self.now) a b) (below self.now.learners) }

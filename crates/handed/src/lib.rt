@@ -34,7 +34,8 @@ fn in_use(learners: usize, pairs: usize, k: usize) -> bool
     k < learners || (MAX_LEARNERS <= k && k < MAX_LEARNERS + pairs)
 }
 
-// Whether list k of the graph has at most eight masks, where it is in use. `pairs` is how many pairs of learners there are.
+// Whether list k of the graph has at most eight masks, where it is in use. `pairs` is how many pairs of learners there are. The count is asked first,
+// since a round that an opening gave needs no more.
 fn list_fits(s: &[u8], learners: usize, pairs: usize, k: usize) -> bool
     requires { Counted s.now learners pairs k }
     ensures { result ≡ list_fits (round_in s.now).graph k }
